@@ -32,6 +32,12 @@ pub enum Checked {
     Refused(Refusal),
 }
 
+// The answer of a reader: how many nodes and outputs the circuit has.
+pub enum Read {
+    Circuit { nodes: usize, outputs: usize },
+    Refused(Refusal),
+}
+
 // The number of a refusal in 01's table.
 pub fn refusal_number(r: Refusal) -> usize
     ensures { λ n. ⌜ n ≡ numberOf r ⌝ }

@@ -4,3 +4,4 @@ pub mod Lists
 pub mod Storing
 pub mod Bits
 pub mod Table
+pub mod Stretches

@@ -1,3 +1,4 @@
 pub mod Areas
 pub mod Bits
 pub mod Lists
+pub mod Stretches

@@ -1,0 +1,4 @@
+pub mod ChainLaws
+pub mod Defining
+pub mod Orders
+pub mod Examples

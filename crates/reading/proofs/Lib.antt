@@ -1,0 +1,5 @@
+pub mod Steps
+pub mod Storing
+pub mod Resolving
+pub mod Outer
+pub mod Sound

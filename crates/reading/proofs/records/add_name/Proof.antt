@@ -1,0 +1,44 @@
+use mathlib.Core.Path.{_≡_, refl, sym, ap, _∙_}
+use mathlib.Core.List.{List, [], _∷_, _++_}
+use Prim.Native.Nat.{ℕ, _+_, _-_, _*_, _≤_, _<_}
+use native.Mathlib.Omega.{arith}
+use lib.Dec.{lit<}
+use lib.ListN.{length}
+use denote.Ref.{now}
+use Rattle.laws.specs.Areas.{capacity}
+use Rattle.circuit.specs.declared.refusals.Checked.{Checked}
+use Rattle.circuit.specs.declared.refusals.Checked.the-variants.{Sound, Refused}
+use Rattle.circuit.specs.declared.records.BoolNode.{BoolNode}
+use Rattle.circuit.specs.Records.{nodesOf}
+use Rattle.circuit.specs.Refusals.{Try, no, yes}
+use Rattle.text.specs.declared.words.Word.{Word}
+use Rattle.names.specs.Chains.{entries}
+use Rattle.reading.specs.Reading.{placesIn, addNamed}
+use Rattle.reading.specs.Holding.{outcome, heldOf}
+use Rattle.reading.proofs.Steps.{name-full, name-added}
+use Rattle.reading.proofs.Storing.{room-of}
+use borrow.Author.Needs.{needs}
+use Rattle.reading.proofs.records.add_name.Statement.{statement}
+use Rattle.reading.proofs.records.add_name.Tie as tie
+
+records-in-requires : tie.Need-records-in-requires
+records-in-requires c κs = search needs
+
+returns : tie.Need-returns
+returns c = (c .before .before .before .before .pre .0, rw (← c .before .records-in .ensures) (name-full (now (c .before .before .before .before .args .names)) (c .before .before .before .before .args .count) _ (record { start = c .before .before .before .before .args .start; len = c .before .before .before .before .args .len }) (c .before .before .before .before .args .wire) (c .if1 .taken)))
+
+define-requires : tie.Need-define-requires
+define-requires c κs = (c .before .before .before .before .before .before .pre .0, (c .before .before .before .before .before .before .pre .1, room-of 4 (length (now (c .before .before .before .before .before .before .args .names))) (c .before .before .before .before .before .before .args .count) (lit< tt) (omega (arith, c .before .before .before .records-in .ensures, c .before .before .if1 .left))))
+
+add-t9 : tie.Need-add-t9
+add-t9 c = search needs
+
+same-length : tie.Need-same-length
+same-length c = search needs
+
+returns-2 : tie.Need-returns-2
+returns-2 c = (c .before .before .define .ensures .table, rw (← c .before .before .before .before .before .before .records-in .ensures) (name-added (now (c .before .before .before .before .before .before .before .before .before .args .names)) (c .before .before .before .before .before .before .before .before .before .args .count) _ (record { start = c .before .before .before .before .before .before .before .before .before .args .start; len = c .before .before .before .before .before .before .before .before .before .args .len }) (c .before .before .before .before .before .before .before .before .before .args .wire) (c .before .before .before .before .before .if1 .left) _ (c .before .before .define .ensures .list)))
+
+pub add-name-spec : {M : Type 1} → statement M
+add-name-spec =
+    tie.close (tie.spec records-in-requires returns define-requires add-t9 same-length returns-2)

@@ -1,0 +1,9 @@
+pub mod ByteLaws
+pub mod BlankLaws
+pub mod WordLaws
+pub mod LineLaws
+pub mod JoinLaws
+pub mod WriteLaws
+pub mod JoinedLines
+pub mod NumberLaws
+pub mod Examples

@@ -1,0 +1,96 @@
+// Bytes: a text of ASCII alone, a byte's first place, words compared, zeros.
+ghost use mathlib.Core.Path.{_≡_};
+ghost use mathlib.Core.List.{_++_};
+ghost use Prim.Native.Nat.{_+_, _-_, _≤_};
+ghost use lib.ListN.{length, take, replicate};
+ghost use Rattle.laws.specs.Stretches.{stretch, run, isNot, sameBytes};
+ghost use Rattle.text.specs.Bytes.{isAscii, upper, isNamed};
+
+// Whether every byte is below 128.
+pub fn is_ascii(text: &[u8]) -> bool
+    ensures { λ r. ⌜ r ≡ isAscii (now (text .entry)) ⌝ }
+{
+    let mut i = 0;
+    while i < text.len() {
+        if 128 <= text[i] {
+            return false;
+        }
+        i += 1;
+    }
+    true
+}
+
+// The first place of a byte, from `from` on and before `end`; `end` if there is none.
+pub fn find_byte(text: &[u8], x: u8, from: usize, end: usize) -> usize
+    requires { ⌜ (from ≤ end) × (end ≤ length (now text)) ⌝ }
+    ensures { λ r. ⌜ (r ≡ from + run (isNot x) (stretch (now (text .entry)) from (end - from))) × (r ≤ end) ⌝ }
+{
+    let mut i = from;
+    while i < end {
+        if text[i] == x {
+            return i;
+        }
+        i += 1;
+    }
+    i
+}
+
+pub fn to_ascii_uppercase(b: u8) -> u8
+    ensures { λ r. ⌜ r ≡ upper b ⌝ }
+{
+    if b < 97 {
+        return b;
+    }
+    if 122 < b {
+        return b;
+    }
+    b - 32
+}
+
+// Whether a stretch of the text is a word, byte for byte.
+pub fn is_word(text: &[u8], start: usize, len: usize, word: &[u8]) -> bool
+    requires { ⌜ start + len ≤ length (now text) ⌝ }
+    ensures { λ r. ⌜ r ≡ sameBytes (stretch (now (text .entry)) start len) (now (word .entry)) ⌝ }
+{
+    if len != word.len() {
+        return false;
+    }
+    let mut i = 0;
+    while i < len {
+        if text[start + i] != word[i] {
+            return false;
+        }
+        i += 1;
+    }
+    true
+}
+
+// Whether a stretch of the text is a name of capital letters, in any case of its own letters.
+pub fn is_named(text: &[u8], start: usize, len: usize, name: &[u8]) -> bool
+    requires { ⌜ start + len ≤ length (now text) ⌝ }
+    ensures { λ r. ⌜ r ≡ isNamed (stretch (now (text .entry)) start len) (now (name .entry)) ⌝ }
+{
+    if len != name.len() {
+        return false;
+    }
+    let mut i = 0;
+    while i < len {
+        if to_ascii_uppercase(text[start + i]) != name[i] {
+            return false;
+        }
+        i += 1;
+    }
+    true
+}
+
+// Zeros from a place on.
+pub fn clear_bytes(area: &mut [u8], from: usize)
+    requires { ⌜ from ≤ length (now area) ⌝ }
+    ensures { λ _. ⌜ now (area .exit) ≡ take from (now (area .entry)) ++ replicate (length (now (area .entry)) - from) 0 ⌝ }
+{
+    let mut i = from;
+    while i < area.len() {
+        area[i] = 0;
+        i += 1;
+    }
+}

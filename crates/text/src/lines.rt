@@ -1,0 +1,51 @@
+// The kept lines of a text, without continuation.
+ghost use mathlib.Core.Path.{_≡_};
+ghost use Prim.Native.Nat.{_+_, _-_, _≤_};
+ghost use lib.ListN.{length};
+ghost use Rattle.laws.specs.Stretches.{stretch};
+ghost use Rattle.text.specs.Lines.{kept, NextLine};
+use crate::bytes::find_byte;
+use crate::words::Word;
+use crate::words::trim;
+
+// A line as a stretch, and where the next raw line starts.
+pub struct Line {
+    pub start: usize,
+    pub len: usize,
+    pub next: usize,
+}
+
+// What is kept of a raw line, as a stretch.
+pub fn kept_line(text: &[u8], from: usize, end: usize) -> Word
+    requires { ⌜ (from ≤ end) × (end ≤ length (now text)) ⌝ }
+    ensures { λ r. ⌜ (stretch (now (text .entry)) (r .start) (r .len) ≡ kept (stretch (now (text .entry)) from (end - from))) × (r .start + r .len ≤ end) ⌝ }
+{
+    let cut = find_byte(text, 35, from, end);
+    trim(text, from, cut)
+}
+
+// The first kept line from `from`, the start of a raw line, on; of length 0 if there is none.
+pub fn next_line(text: &[u8], from: usize) -> Line
+    requires { ⌜ from ≤ length (now text) + 1 ⌝ }
+    ensures { λ r. ⌜ NextLine (now (text .entry)) from r ⌝ }
+{
+    let size = text.len();
+    let mut at = from;
+    while at < size {
+        let end = find_byte(text, 10, at, size);
+        let w = kept_line(text, at, end);
+        if w.len != 0 {
+            return Line {
+                start: w.start,
+                len: w.len,
+                next: end + 1,
+            };
+        }
+        at = end + 1;
+    }
+    Line {
+        start: 0,
+        len: 0,
+        next: at,
+    }
+}
