@@ -5,3 +5,6 @@ pub mod Storing
 pub mod Bits
 pub mod Table
 pub mod Stretches
+pub mod Digits
+pub mod Parts
+pub mod Filling

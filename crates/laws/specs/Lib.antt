@@ -2,3 +2,4 @@ pub mod Areas
 pub mod Bits
 pub mod Lists
 pub mod Stretches
+pub mod Digits

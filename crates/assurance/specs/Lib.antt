@@ -1,0 +1,2 @@
+pub mod Assurance
+pub mod Carried

@@ -1,0 +1,114 @@
+// Demand 3, carried by the code: the order, the run along it and `evaluate`, on lent areas.
+ghost use mathlib.Core.Path.{_≡_};
+ghost use Prim.Native.Nat.{_≤_};
+ghost use lib.ListN.{length, take};
+ghost use Rattle.assurance.specs.Carried.{RanThenEvaluated, Carries};
+use circuit::areas::clear_bytes;
+use circuit::refusals::Refusal;
+use runs::evaluate::Evaluated;
+use runs::evaluate::evaluate;
+use runs::run::Ran;
+use runs::run::run;
+use schedule::Ordered;
+use schedule::scheduled_gates_by_key;
+
+// The answers of the run and of `evaluate`.
+pub struct Both {
+    pub ran: Ran,
+    pub evaluated: Evaluated,
+}
+
+// The run along the first entries of an order, then `evaluate`.
+pub fn run_and_evaluate(
+    nodes: &[usize],
+    outputs: &[usize],
+    order: &[usize],
+    cells: usize,
+    assignment: &[u8],
+    values: &mut [u8],
+    answers: &mut [u8],
+    evaluated: &mut [u8],
+) -> Both
+    requires { ⌜ cells ≤ length (now order) ⌝ }
+    ensures { λ r. ⌜ RanThenEvaluated (now (nodes .entry)) (now (outputs .entry)) (take cells (now (order .entry))) (now (assignment .entry)) (now (values .entry)) (now (answers .entry)) (now (evaluated .entry)) r (now (values .exit)) (now (answers .exit)) (now (evaluated .exit)) ⌝ }
+{
+    let ran = run(nodes, outputs, &order[..cells], assignment, values, answers);
+    let e = evaluate(nodes, outputs, assignment, values, evaluated);
+    Both { ran, evaluated: e }
+}
+
+// The same, where the entries are no more than the area's; else nothing is run.
+pub fn run_ordered(
+    nodes: &[usize],
+    outputs: &[usize],
+    order: &[usize],
+    cells: usize,
+    assignment: &[u8],
+    values: &mut [u8],
+    answers: &mut [u8],
+    evaluated: &mut [u8],
+) -> Both
+    ensures { λ r. ⌜ (cells ≤ length (now (order .entry)) → RanThenEvaluated (now (nodes .entry)) (now (outputs .entry)) (take cells (now (order .entry))) (now (assignment .entry)) (now (values .entry)) (now (answers .entry)) (now (evaluated .entry)) r (now (values .exit)) (now (answers .exit)) (now (evaluated .exit))) ⌝ }
+{
+    if order.len() < cells {
+        return refuse_both(Refusal::UnfitOrder, values, answers, evaluated);
+    }
+    run_and_evaluate(
+        nodes,
+        outputs,
+        order,
+        cells,
+        assignment,
+        values,
+        answers,
+        evaluated,
+    )
+}
+
+// Nothing was ordered: zeros everywhere.
+pub fn refuse_both(
+    e: Refusal,
+    values: &mut [u8],
+    answers: &mut [u8],
+    evaluated: &mut [u8],
+) -> Both {
+    clear_bytes(values);
+    clear_bytes(answers);
+    clear_bytes(evaluated);
+    Both {
+        ran: Ran::Refused(e),
+        evaluated: Evaluated::Refused(e),
+    }
+}
+
+// The schedule, the run along its order, and `evaluate`.
+pub fn order_and_run(
+    nodes: &[usize],
+    outputs: &[usize],
+    window: usize,
+    keys: &[u32],
+    ready: &mut [usize],
+    successors: &mut [usize],
+    order: &mut [usize],
+    assignment: &[u8],
+    values: &mut [u8],
+    answers: &mut [u8],
+    evaluated: &mut [u8],
+) -> Both
+    ensures { λ r. ⌜ Carries (now (nodes .entry)) (now (outputs .entry)) window (now (keys .entry)) (now (assignment .entry)) (now (values .entry)) (length (now (ready .entry))) (length (now (successors .entry))) (length (now (order .entry))) (length (now (answers .entry))) (length (now (evaluated .entry))) r (now (order .exit)) (now (values .exit)) (now (answers .exit)) (now (evaluated .exit)) ⌝ }
+{
+    let ordered = scheduled_gates_by_key(nodes, outputs, window, keys, ready, successors, order);
+    match ordered {
+        Ordered::Refused(e) => refuse_both(e, values, answers, evaluated),
+        Ordered::Cells(cells) => run_ordered(
+            nodes,
+            outputs,
+            order,
+            cells,
+            assignment,
+            values,
+            answers,
+            evaluated,
+        ),
+    }
+}

@@ -1,0 +1,56 @@
+// Cells: tables packed in a number, and the three-valued answers of a cell.
+ghost use mathlib.Core.Path.{_≡_};
+ghost use mathlib.Core.List.{[], _∷_};
+ghost use Prim.Native.Nat.{_<_};
+ghost use Rattle.cells.specs.Cells.{entry, setEntry, cellRule};
+
+// The answers of the two-input cells, at 9 * table + 3 * first + second: a row for each table.
+const ANSWERS: [u8; 144] = *b"\
+    \x00\x00\x00\x00\x00\x00\x00\x00\x00\
+    \x01\x00\x02\x00\x00\x00\x02\x00\x02\
+    \x00\x01\x02\x00\x00\x00\x00\x02\x02\
+    \x01\x01\x01\x00\x00\x00\x02\x02\x02\
+    \x00\x00\x00\x01\x00\x02\x02\x00\x02\
+    \x01\x00\x02\x01\x00\x02\x01\x00\x02\
+    \x00\x01\x02\x01\x00\x02\x02\x02\x02\
+    \x01\x01\x01\x01\x00\x02\x01\x02\x02\
+    \x00\x00\x00\x00\x01\x02\x00\x02\x02\
+    \x01\x00\x02\x00\x01\x02\x02\x02\x02\
+    \x00\x01\x02\x00\x01\x02\x00\x01\x02\
+    \x01\x01\x01\x00\x01\x02\x02\x01\x02\
+    \x00\x00\x00\x01\x01\x01\x02\x02\x02\
+    \x01\x00\x02\x01\x01\x01\x01\x02\x02\
+    \x00\x01\x02\x01\x01\x01\x02\x01\x02\
+    \x01\x01\x01\x01\x01\x01\x01\x01\x01";
+
+// Entry j of a packed table.
+pub fn table_entry(table: usize, j: usize) -> usize
+    requires { ⌜ j < 64 ⌝ }
+    ensures { λ r. ⌜ r ≡ entry table j ⌝ }
+{
+    (table >> j) & 1
+}
+
+// The table with entry j set to a bit.
+pub fn set_table_entry(table: usize, j: usize, bit: usize) -> usize
+    requires { ⌜ (j < 64) × (bit < 2) ⌝ }
+    ensures { λ r. ⌜ r ≡ setEntry table j bit ⌝ }
+{
+    (table & !(1 << j)) | (bit << j)
+}
+
+// What a cell of two wires gives on their values.
+pub fn two_wire_answer(table: usize, first: usize, second: usize) -> u8
+    requires { ⌜ (table < 16) × (first < 3) × (second < 3) ⌝ }
+    ensures { λ r. ⌜ r ≡ cellRule table (first ∷ second ∷ []) ⌝ }
+{
+    ANSWERS[9 * table + 3 * first + second]
+}
+
+// What a cell of one wire gives on its value: a cell of two whose first is 0.
+pub fn one_wire_answer(table: usize, value: usize) -> u8
+    requires { ⌜ (table < 16) × (value < 3) ⌝ }
+    ensures { λ r. ⌜ r ≡ cellRule table (value ∷ []) ⌝ }
+{
+    two_wire_answer(table, 0, value)
+}

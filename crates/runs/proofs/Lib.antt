@@ -1,0 +1,10 @@
+pub mod Storage
+pub mod Along
+pub mod Stepping
+pub mod Marking
+pub mod Blocks
+pub mod Turns
+pub mod Calls
+pub mod Evaluating
+pub mod Numbering
+pub mod Examples

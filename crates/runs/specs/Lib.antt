@@ -1,0 +1,5 @@
+pub mod Values
+pub mod Runs
+pub mod Fit
+pub mod Work
+pub mod Calls

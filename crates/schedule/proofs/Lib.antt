@@ -1,0 +1,16 @@
+pub mod Order
+pub mod WindowOne
+pub mod Greatest
+pub mod Complete
+pub mod Records
+pub mod Edges
+pub mod Sources
+pub mod Scan
+pub mod Moving
+pub mod Freeing
+pub mod Chains
+pub mod Steps
+pub mod Whole
+pub mod Call
+pub mod Theorems
+pub mod Examples

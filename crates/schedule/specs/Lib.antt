@@ -1,0 +1,4 @@
+pub mod Schedule
+pub mod Call
+pub mod Promises
+pub mod Areas
