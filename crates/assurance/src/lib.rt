@@ -1,6 +1,6 @@
 // Demand 3, carried by the code: the order, the run along it and `evaluate`, on lent areas.
 ghost use mathlib.Core.Path.{_≡_};
-ghost use Prim.Native.Nat.{_≤_};
+ghost use Prim.Native.Nat.{_*_, _≤_};
 ghost use lib.ListN.{length, take};
 ghost use Rattle.assurance.specs.Carried.{RanThenEvaluated, Carries};
 use circuit::areas::clear_bytes;
@@ -111,4 +111,43 @@ pub fn order_and_run(
             evaluated,
         ),
     }
+}
+
+// The first records of two areas: the schedule, the run and `evaluate` on them.
+pub fn run_read(
+    nodes: &[usize],
+    node_count: usize,
+    outputs: &[usize],
+    output_count: usize,
+    window: usize,
+    keys: &[u32],
+    ready: &mut [usize],
+    successors: &mut [usize],
+    order: &mut [usize],
+    assignment: &[u8],
+    values: &mut [u8],
+    answers: &mut [u8],
+    evaluated: &mut [u8],
+) -> Both
+    ensures { λ r. ⌜ («node_count» * 9 ≤ length (now (nodes .entry)) → «output_count» * 5 ≤ length (now (outputs .entry)) → Carries (take («node_count» * 9) (now (nodes .entry))) (take («output_count» * 5) (now (outputs .entry))) window (now (keys .entry)) (now (assignment .entry)) (now (values .entry)) (length (now (ready .entry))) (length (now (successors .entry))) (length (now (order .entry))) (length (now (answers .entry))) (length (now (evaluated .entry))) r (now (order .exit)) (now (values .exit)) (now (answers .exit)) (now (evaluated .exit))) ⌝ }
+{
+    if nodes.len() / 9 < node_count {
+        return refuse_both(Refusal::Broken, values, answers, evaluated);
+    }
+    if outputs.len() / 5 < output_count {
+        return refuse_both(Refusal::Broken, values, answers, evaluated);
+    }
+    order_and_run(
+        &nodes[..node_count * 9],
+        &outputs[..output_count * 5],
+        window,
+        keys,
+        ready,
+        successors,
+        order,
+        assignment,
+        values,
+        answers,
+        evaluated,
+    )
 }

@@ -1,10 +1,13 @@
 -- Tables packed in a number, and the cell rule. A value is 0, 1 or 2, the unknown.
 -- Assumes nothing.
 use mathlib.Core.List.{List, [], _∷_, _++_, map}
-use mathlib.Core.Bool.{cond}
-use Prim.Native.Nat.{ℕ, zero, suc, _+_, _*_}
-use lib.Dec.{eqb}
+use mathlib.Core.Bool.{Bool, cond}
+use mathlib.Core.Path.{_≡_}
+use Prim.Native.Nat.{ℕ, zero, suc, _+_, _*_, _/_, _%_}
+use lib.Dec.{T, eqb}
+use lib.ListN.{length}
 use Rattle.laws.specs.Bits.{bit, setBit}
+use Rattle.laws.proofs.Table.{every}
 
 -- "Table entry j, 0 or 1, is bit j of a number (bit 0 lowest)"
 abbrev pub entry : ℕ → ℕ → ℕ
@@ -35,3 +38,12 @@ agreed (b ∷ c ∷ bs) = cond (eqb b (agreed (c ∷ bs))) b 2
 -- "A cell gives b when every filling of its unknown positions picks b, else 2; the same wire at both positions is filled separately"
 abbrev pub cellRule : ℕ → List ℕ → ℕ
 cellRule table vs = agreed (map (entry table) (fillings 0 vs))
+
+-- "Two-input cells use a fixed table of 144 answers at 9 × table + 3 × first + second": the rule at place k
+unfoldable pub rightAnswer : ℕ → ℕ → Bool
+rightAnswer k answer = eqb answer (cellRule (k / 9) (k % 9 / 3 ∷ k % 3 ∷ []))
+
+-- a table that passes the test at each of its 144 places
+pub record AnswerTable (answers : List ℕ) : Type 0 where
+  pub size : length answers ≡ 144
+  pub right : T (every rightAnswer 0 answers)

@@ -8,3 +8,5 @@ pub mod Stretches
 pub mod Digits
 pub mod Parts
 pub mod Filling
+pub mod Sums
+pub mod Rows

@@ -3,3 +3,4 @@ pub mod Bits
 pub mod Lists
 pub mod Stretches
 pub mod Digits
+pub mod Sums

@@ -7,8 +7,8 @@ use Prim.Native.Nat.{ℕ, suc, _+_, _-_, _*_, _<_, _≤_}
 use native.Mathlib.Nat.{add-zero, zero-add}
 use native.Mathlib.Numerals.{add-one}
 use native.Mathlib.Omega.{arith}
-use lib.Dec.{eqb}
-use borrow.Author.Tests.{eq-eqb, ne-eqb}
+use lib.Dec.{eqb, ltb}
+use borrow.Author.Tests.{eq-eqb, ne-eqb, ltb-true, ltb-false}
 use lib.ListN.{length, getD, set, take, drop, drop-of-length-le, length-append, length-map, List·getD-map}
 use lib.Seq.{drop-cons}
 use Rattle.laws.specs.Areas.{upFrom}
@@ -119,6 +119,9 @@ module _ (nodes : List ℕ) (count : ℕ) where
         go true = ap (λ (j : ℕ). putIn given p j s (from (k + 1))) (sym (add-one k))
         go false = ap₂ (λ (q j : ℕ). putIn given q j (set s k (getD given p 0)) (from (k + 1))) (sym (add-one p)) (sym (add-one k))
 
+    pub same-turn : (p r size : ℕ) → p + inputCount (from k) ≡ size → r ≡ cond (isCellNode (nodeAt nodes k)) p (p + 1) → r + inputCount (from (k + 1)) ≡ size
+    same-turn p r size l e = omega (arith, count-turn, e ∙ cond-number (isCellNode (nodeAt nodes k)) p)
+
     pub room-turn : (p r size : ℕ) → p + inputCount (from k) ≤ size → r ≡ cond (isCellNode (nodeAt nodes k)) p (p + 1) → r + inputCount (from (k + 1)) ≤ size
     room-turn p r size l e = omega (arith, count-turn, e ∙ cond-number (isCellNode (nodeAt nodes k)) p)
 
@@ -126,6 +129,26 @@ module _ (nodes : List ℕ) (count : ℕ) where
     room-now p size l e =
         let one : _≡_ {A = ℕ} (cond (isCellNode (nodeAt nodes k)) 0 1) 1 = ap (λ (b : Bool). cond b 0 1) e in
         omega (arith, count-turn, one)
+
+  -- an input is ahead: then a node is
+  pub input-ahead : (k : ℕ) → 0 < inputCount (from k) → k < count
+  unfolding inputCount
+  input-ahead k h = go (ltb k count) refl
+    where
+      go : (t : Bool) → ltb k count ≡ t → k < count
+      go true e = ltb-true k count e
+      go false e = let z : inputCount (from k) ≡ inputCount [] = ap inputCount (from-end k (ltb-false k count e)) in absurd (omega (arith, z))
+
+-- no input is ahead: then none is put in
+pub put-none : (assignment : List ℕ) (p k : ℕ) (s : List ℕ) (ns : List BoolNode) → inputCount ns ≡ 0 → putIn assignment p k s ns ≡ s
+unfolding putIn inputCount
+put-none assignment p k s [] e = refl
+put-none assignment p k s (n ∷ ns) e = go (isCellNode n) refl (put-none assignment p (suc k) s ns)
+  where
+    go : (b : Bool) → isCellNode n ≡ b → (inputCount ns ≡ 0 → putIn assignment p (suc k) s ns ≡ s)
+        → cond (isCellNode n) (putIn assignment p (suc k) s ns) (putIn assignment (suc p) (suc k) (set s k (getD assignment p 0)) ns) ≡ s
+    go true q below = rw q (below (rw q at e))
+    go false q below = let z : suc (inputCount ns) ≡ 0 = rw q at e in absurd (omega arith)
 
 pub cond-small : (b : Bool) → cond b 0 1 ≤ 1
 cond-small true = omega arith

@@ -7,8 +7,8 @@ ghost use lib.ListN.{length};
 ghost use Rattle.circuit.specs.Records.{wiresOf, nodesOf};
 ghost use Rattle.circuit.specs.Check.{notBelow, someNotBelow};
 ghost use Rattle.circuit.specs.Graph.{graphOf, fit, fitList};
+ghost use Rattle.runs.specs.Runs.{inputCount};
 ghost use Rattle.runs.specs.Fit.{within, blockSize, fitIn, Marks, waitsHere, wireWaits, someWaits, Accepted, Marking, Entering};
-use crate::inputs::count_inputs;
 use cells::set_table_entry;
 use cells::table_entry;
 use circuit::areas::clear;
@@ -176,13 +176,12 @@ pub fn fit_marked(nodes: &[usize], count: usize, order: &[usize]) -> bool
     fit_blocks(nodes, count, order, &mut marks)
 }
 
-// The list has each cell once, after those it reads.
-pub fn fit_list(nodes: &[usize], count: usize, order: &[usize]) -> bool
-    requires { ⌜ Accepted (now nodes) count ⌝ }
+// The list has each cell once, after those it reads. The circuit has so many inputs.
+pub fn fit_list(nodes: &[usize], count: usize, inputs: usize, order: &[usize]) -> bool
+    requires { ⌜ Accepted (now nodes) count × (inputs ≡ inputCount (nodesOf (now nodes) count)) ⌝ }
     ensures { λ r. ⌜ r ≡ fitList (graphOf (nodesOf (now (nodes .entry)) count)) (now (order .entry)) ⌝ }
 {
-    let n = count_inputs(nodes, count);
-    if order.len() == count - n {
+    if order.len() == count - inputs {
         return fit_marked(nodes, count, order);
     }
     false

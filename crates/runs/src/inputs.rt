@@ -68,13 +68,15 @@ pub fn put_input(nodes: &[usize], k: usize, assignment: &[u8], p: usize, values:
     p + 1
 }
 
-// Every input's value goes into the store.
+// Every input's value goes into the store: node after node, until none is left.
 pub fn put_inputs(nodes: &[usize], count: usize, assignment: &[u8], values: &mut [u8])
-    requires { ⌜ (count * 9 ≤ length (now nodes)) × (count ≤ length (now values)) × (inputCount (nodesOf (now nodes) count) ≤ length (now assignment)) ⌝ }
+    requires { ⌜ (count * 9 ≤ length (now nodes)) × (count ≤ length (now values)) × (length (now assignment) ≡ inputCount (nodesOf (now nodes) count)) ⌝ }
     ensures { λ _. ⌜ now (values .exit) ≡ putIn (now (assignment .entry)) 0 0 (now (values .entry)) (nodesOf (now (nodes .entry)) count) ⌝ }
 {
+    let mut k = 0;
     let mut p = 0;
-    for k in 0..count {
+    while p < assignment.len() {
         p = put_input(nodes, k, assignment, p, values);
+        k += 1;
     }
 }

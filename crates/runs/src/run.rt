@@ -49,7 +49,7 @@ pub fn run_fault(
             if wrong_assignment(nodes, count, assignment, 2) {
                 return Checked::Refused(Refusal::WrongValues);
             }
-            if fit_list(nodes, count, order) {
+            if fit_list(nodes, count, assignment.len(), order) {
                 return room_fault(nodes, outputs, store, answers);
             }
             return Checked::Refused(Refusal::UnfitOrder);
@@ -65,7 +65,7 @@ pub fn run_store(
     assignment: &[u8],
     values: &mut [u8],
 )
-    requires { ⌜ Accepted (now nodes) count × (fitList (graphOf (nodesOf (now nodes) count)) (now order) ≡ true) × (count ≤ length (now values)) × (inputCount (nodesOf (now nodes) count) ≤ length (now assignment)) ⌝ }
+    requires { ⌜ Accepted (now nodes) count × (fitList (graphOf (nodesOf (now nodes) count)) (now order) ≡ true) × (count ≤ length (now values)) × (length (now assignment) ≡ inputCount (nodesOf (now nodes) count)) ⌝ }
     ensures { λ _. ⌜ now (values .exit) ≡ runStore (nodesOf (now (nodes .entry)) count) (now (assignment .entry)) (now (order .entry)) (now (values .entry)) ⌝ }
 {
     put_inputs(nodes, count, assignment, values);

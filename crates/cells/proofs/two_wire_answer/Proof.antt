@@ -17,14 +17,16 @@ add-result c = search needs
 add-result-2 : tie.Need-add-result-2
 add-result-2 c = search needs
 
-array-read-result : tie.Need-array-read-result
-array-read-result c = search needs
+element-copy-out-result : tie.Need-element-copy-out-result
+element-copy-out-result c = search needs
 
 returns : tie.Need-returns
 returns c =
-    let a = c .args in
-    answer-at (a .table) (a .first) (a .second) (c .pre .0) (c .pre .1) (c .pre .2)
+    let a = c .before .args in
+    let p = c .before .pre in
+    answer-at (a .answers .now) (p .0) (a .table) (a .first) (a .second) (p .1) (p .2) (p .3)
 
 pub two-wire-answer-spec : {M : Type 1} → statement M
 two-wire-answer-spec =
-    tie.close (tie.spec mul-result mul-result-2 add-result add-result-2 array-read-result returns)
+    tie.close
+    (tie.spec mul-result mul-result-2 add-result add-result-2 element-copy-out-result returns)

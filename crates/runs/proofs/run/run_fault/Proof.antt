@@ -2,7 +2,8 @@
 -- Assumes nothing.
 use mathlib.Core.Path.{sym, _∙_}
 use borrow.Author.Needs.{needs}
-use Rattle.runs.proofs.Calls.{accepted-nodes, run-unchecked, run-unassigned, run-unfit, run-fit}
+use Rattle.circuit.specs.Check.{nodesIn}
+use Rattle.runs.proofs.Calls.{assigned, accepted-nodes, run-unchecked, run-unassigned, run-unfit, run-fit}
 use Rattle.runs.proofs.run.run_fault.Statement.{statement}
 use Rattle.runs.proofs.run.run_fault.Tie as tie
 
@@ -27,7 +28,9 @@ returns-2 c =
     run-unassigned (a .nodes .now) (a .outputs .now) (a .order .now) (a .assignment .now) (a .store) (a .answers) (sym (c .before .before .before .before .validate-topological .ensures) ∙ c .before .before .enum-told .given .1) (sym (c .before .wrong-assignment .ensures) ∙ c .if1 .taken)
 
 fit-list-requires : tie.Need-fit-list-requires
-fit-list-requires c κs = accepted-nodes (c .before .before .before .before .before .before .before .before .before .args .nodes .now) (c .before .before .before .before .before .before .before .before .before .args .outputs .now) (sym (c .before .before .before .before .validate-topological .ensures) ∙ c .before .before .enum-told .given .1)
+fit-list-requires c κs =
+    let a = c .before .before .before .before .before .before .before .before .before .args in
+    (accepted-nodes (a .nodes .now) (a .outputs .now) (sym (c .before .before .before .before .validate-topological .ensures) ∙ c .before .before .enum-told .given .1), assigned 2 (nodesIn (a .nodes .now)) (a .assignment .now) (sym (c .before .wrong-assignment .ensures) ∙ c .if1 .left) .0)
 
 room-fault-requires : tie.Need-room-fault-requires
 room-fault-requires c κs = search needs

@@ -18,7 +18,7 @@ run-store-requires : tie.Need-run-store-requires
 run-store-requires c κs =
     let a = c .before .before .before .before .before .before .before .args in
     let r = runs-of (a .nodes .now) (a .outputs .now) (a .order .now) (a .assignment .now) (length (a .values .now)) (length (a .answers .now)) (c .before .before .before .before .before .before .before .pre) in
-    (accepted-nodes (a .nodes .now) (a .outputs .now) (r .checks), r .fits, r .room .store-room, omega (arith, r .inputs))
+    (accepted-nodes (a .nodes .now) (a .outputs .now) (r .checks), r .fits, r .room .store-room, r .inputs)
 
 give-requires : tie.Need-give-requires
 give-requires c κs =

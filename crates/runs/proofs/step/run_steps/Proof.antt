@@ -14,10 +14,13 @@ use Rattle.runs.proofs.step.run_steps.Statement.{statement}
 use Rattle.runs.proofs.step.run_steps.Tie as tie
 
 abbrev Inv-loop : tie.InvT-loop
-Inv-loop nodes count order values₀ i₀ i-end values i = (steps (nodesOf nodes count) values₀ order ≡ steps (nodesOf nodes count) values (drop i order)) × (i ≤ length order) × (length values ≡ length values₀) × (i-end ≡ length order)
+Inv-loop nodes count order values₀ answers i₀ i-end values i = (steps (nodesOf nodes count) values₀ order ≡ steps (nodesOf nodes count) values (drop i order)) × (i ≤ length order) × (length values ≡ length values₀) × (i-end ≡ length order)
 
 abbrev μ-loop : tie.MeasureT-loop
-μ-loop nodes count order values₀ i₀ i-end values i = length order - i
+μ-loop nodes count order values₀ answers i₀ i-end values i = length order - i
+
+answer-table-requires : tie.Need-answer-table-requires Inv-loop μ-loop
+answer-table-requires c κs = search needs
 
 loop-holds : tie.Need-loop-holds Inv-loop μ-loop
 loop-holds c = (refl, zero-le, refl, refl)
@@ -30,9 +33,9 @@ shared-slice-read-step c = search needs
 
 step-requires : tie.Need-step-requires Inv-loop μ-loop
 step-requires c κs =
-    let a = c .before .before .before .before .before .before .before .args in
-    let l = c .before .before .before .loop in
-    subst (λ (size : ℕ). WorkableAt (a .nodes .now) size (getD (a .order .now) (l .i) 0)) (sym (l .inv .2)) (c .before .before .before .before .before .before .before .pre .0 (l .i) (omega arith))
+    let a = c .before .before .before .before .before .before .before .before .before .args in
+    let l = c .before .before .before .before .loop in
+    (c .before .before .before .before .before .answer-table .ensures, subst (λ (size : ℕ). WorkableAt (a .nodes .now) size (getD (a .order .now) (l .i) 0)) (sym (l .inv .2)) (c .before .before .before .before .before .before .before .before .before .pre .0 (l .i) (omega arith)))
 
 add-i : tie.Need-add-i Inv-loop μ-loop
 add-i c = search needs
@@ -42,13 +45,13 @@ loop-less c = search needs
 
 loop-again : tie.Need-loop-again Inv-loop μ-loop
 loop-again c =
-    let a = c .before .before .before .before .before .before .before .before .before .before .args in
-    let l = c .before .before .before .before .before .before .loop in
+    let a = c .before .before .before .before .before .before .before .before .before .before .before .before .args in
+    let l = c .before .before .before .before .before .before .before .loop in
     let h : l .i < length (a .order .now) = omega arith in (
-      l .inv .0 ∙ steps-turn (a .nodes .now) (a .count) (a .order .now) (l .values) (l .i) h (c .before .before .before .before .before .before .before .before .before .before .pre .2 (l .i) h)
+      l .inv .0 ∙ steps-turn (a .nodes .now) (a .count) (a .order .now) (l .values) (l .i) h (c .before .before .before .before .before .before .before .before .before .before .before .before .pre .2 (l .i) h)
           ∙ ap (λ (s : List ℕ). steps (nodesOf (a .nodes .now) (a .count)) s (drop (l .i + 1) (a .order .now))) (sym (c .before .before .step .ensures)),
       omega arith,
-      c .before .before .step .kept .1 .1 .0 ∙ l .inv .2,
+      c .before .before .step .kept .1 .1 .1 .0 ∙ l .inv .2,
       refl,
     )
 
@@ -57,7 +60,7 @@ same-length c = search needs
 
 returns : tie.Need-returns Inv-loop μ-loop
 returns c =
-    let a = c .before .before .before .before .before .args in
+    let a = c .before .before .before .before .before .before .args in
     let l = c .before .loop in
     sym (l .inv .0 ∙ steps-end (nodesOf (a .nodes .now) (a .count)) (a .order .now) (l .values) (l .i) (omega arith))
 
@@ -67,6 +70,7 @@ run-steps-spec =
     (tie.spec
     Inv-loop
     μ-loop
+    answer-table-requires
     loop-holds
     mul-step
     shared-slice-read-step

@@ -16,7 +16,7 @@ node-at-requires c κs = search needs
 answer-of-requires : tie.Need-answer-of-requires
 answer-of-requires c κs =
     let a = c .before .before .before .before .args in
-    subst (λ (n : BoolNode). Workable n (length (a .values .now))) (sym (node-is (a .nodes .now) (a .x) (c .before .node-at .ensures))) (c .before .before .before .before .pre .workable)
+    (c .before .before .before .before .pre .0, subst (λ (n : BoolNode). Workable n (length (a .values .now))) (sym (node-is (a .nodes .now) (a .x) (c .before .node-at .ensures))) (c .before .before .before .before .pre .1 .workable))
 
 slice-write-values : tie.Need-slice-write-values
 slice-write-values c = search needs

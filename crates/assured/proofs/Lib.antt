@@ -1,0 +1,4 @@
+pub mod BlifSound
+pub mod BenchSound
+pub mod BristolSound
+pub mod Composing

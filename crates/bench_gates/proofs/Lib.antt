@@ -1,0 +1,4 @@
+pub mod Drivers
+pub mod Chaining
+pub mod Lowering
+pub mod Naming

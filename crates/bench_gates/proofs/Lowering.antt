@@ -1,0 +1,98 @@
+-- The ways of lowering a gate whose inputs have drivers.
+-- Assumes nothing.
+use Prim.Native.Nat.{ℕ, zero, suc, _+_, _≤_, _<_}
+use mathlib.Core.Path.{_≡_, refl, sym, ap, _∙_}
+use mathlib.Core.Bool.{true}
+use mathlib.Core.List.{List, [], _∷_}
+use native.Mathlib.Omega.{arith}
+use lib.ListN.{length}
+use Rattle.circuit.specs.declared.refusals.Refusal.the-variants.{NoDriver, WrongCount, Unknown}
+use Rattle.circuit.specs.declared.refusals.Checked.{Checked}
+use Rattle.circuit.specs.declared.refusals.Checked.the-variants.{Sound, Refused}
+use Rattle.circuit.specs.declared.records.BoolNode.{BoolNode}
+use Rattle.circuit.specs.Refusals.{Try, no, yes, andThen}
+use Rattle.text.specs.declared.words.Word.{Word}
+use Rattle.names.specs.Names.{Entry}
+use Rattle.names.specs.declared.Found.{Found}
+use Rattle.names.specs.declared.Found.the-variants.{At, Nothing}
+use Rattle.reading.specs.Reading.{Places, Held, find, addName, withNames, addAlias, addNamed}
+use Rattle.reading.specs.Holding.{outcome}
+use Rattle.bench_gates.specs.declared.operations.Operation.{Operation}
+use Rattle.bench_gates.specs.declared.operations.Operation.the-variants.{Buf, Not, Chain, Other}
+use Rattle.bench_gates.specs.declared.operations.Binary.{Binary}
+use Rattle.bench_gates.specs.Gates.{inputWires, onlyOne, inverter, withNodes, chain, chained, lowerGate}
+use Rattle.bench_gates.specs.Walks.{Driven, chainWords}
+use Rattle.bench_gates.proofs.Drivers.{inputs-none, inputs-more, inputs-rest, inputs-length}
+use Rattle.bench_gates.proofs.Chaining.{chain-words}
+
+not-one : {A B : Type 0} (xs : List A) (f : A → Try B) → (length xs ≡ 1 → ⊥) → no WrongCount ≡ andThen (onlyOne xs) f
+not-one [] f ne = refl
+not-one (x ∷ []) f ne = absurd (ne refl)
+not-one (x ∷ y ∷ ys) f ne = refl
+
+module _ (t : List ℕ) (es : List Entry) (ws : List Word) (inputs : ℕ) (d : Driven t es ws inputs) where
+  count : length (d .wires) ≡ inputs
+  count = inputs-length t es ws (d .wires) (d .are) ∙ sym (d .count-is)
+
+  module _ {B : Type 0} (f : ℕ → Try B) where
+    pub wrong-count : (inputs ≡ 1 → ⊥) → no WrongCount ≡ andThen (inputWires t es ws) (λ xs. andThen (onlyOne xs) f)
+    wrong-count ne = rw (d .are) (not-one (d .wires) f (λ q. ne (sym count ∙ q)))
+
+    pub one-input : (w : Word) (rest : List Word) → ws ≡ w ∷ rest → inputs ≡ 1 → (x : ℕ) → find true t w es ≡ At x → f x ≡ andThen (inputWires t es ws) (λ xs. andThen (onlyOne xs) f)
+    one-input w rest e one x q =
+        let r = inputs-rest t es ws w rest e x q (d .wires) (d .are) in
+        rw (d .are, r .all-are) (go (r .wires) (omega (arith, ap length (r .all-are), count)))
+      where
+        go : (xs : List ℕ) → length xs ≡ 0 → f x ≡ andThen (onlyOne (x ∷ xs)) f
+        go [] z = refl
+        go (y ∷ ys) z = absurd (omega arith)
+
+pub no-driver : {B : Type 0} (t : List ℕ) (es : List Entry) (ws : List Word) (w : Word) (rest : List Word) (f : List ℕ → Try B) → ws ≡ w ∷ rest → find true t w es ≡ Nothing → no NoDriver ≡ andThen (inputWires t es ws) f
+no-driver t es ws w rest f e q = rw (← inputs-none t es ws w rest e q)
+
+-- ---- the operations
+
+module _ (p : Places) (out : Word) (h : Held) where
+  buffer : (xs : List ℕ) → withNames (h .nodes) (andThen (onlyOne xs) (λ x. addName (p .names) out x (h .names))) ≡ lowerGate p out Buf xs h
+  unfolding lowerGate addAlias
+  buffer [] = refl
+  buffer (x ∷ []) = refl
+  buffer (x ∷ y ∷ ys) = refl
+
+  -- the names of a buffer, with the nodes as they were
+  pub buffered : (r : Try (List ℕ)) (f : Checked) (names : List Entry) → outcome f names ≡ andThen r (λ xs. andThen (onlyOne xs) (λ x. addName (p .names) out x (h .names)))
+      → outcome f (withNodes (h .nodes) names) ≡ andThen r (λ xs. lowerGate p out Buf xs h)
+  buffered r f names e = keep f ∙ ap (withNames (h .nodes)) e ∙ go r
+    where
+      keep : (g : Checked) → outcome g (withNodes (h .nodes) names) ≡ withNames (h .nodes) (outcome g names)
+      keep Sound = refl
+      keep (Refused q) = refl
+
+      go : (s : Try (List ℕ)) → withNames (h .nodes) (andThen s (λ xs. andThen (onlyOne xs) (λ x. addName (p .names) out x (h .names)))) ≡ andThen s (λ xs. lowerGate p out Buf xs h)
+      go (no q) = refl
+      go (yes xs) = buffer xs
+
+  pub inverted : (r : Try (List ℕ)) → andThen r (λ xs. andThen (onlyOne xs) (λ x. addNamed p out (inverter out x) h)) ≡ andThen r (λ xs. lowerGate p out Not xs h)
+  unfolding lowerGate
+  inverted r = refl
+
+  pub unknown : (t : List ℕ) (es : List Entry) (ws : List Word) (inputs : ℕ) → Driven t es ws inputs → no Unknown ≡ andThen (inputWires t es ws) (λ xs. lowerGate p out Other xs h)
+  unfolding lowerGate
+  unknown t es ws inputs d = rw (d .are)
+
+few : (p : Places) (out : Word) (o : Binary) (h : Held) (xs : List ℕ) → length xs < 2 → no WrongCount ≡ lowerGate p out (Chain o) xs h
+unfolding lowerGate chained chain
+few p out o h [] l = refl
+few p out o h (x ∷ []) l = refl
+few p out o h (x ∷ y ∷ ys) l = absurd (omega arith)
+
+module _ (t : List ℕ) (es : List Entry) (ws : List Word) (inputs : ℕ) (d : Driven t es ws inputs) (p : Places) (out : Word) (o : Binary) (ns : List BoolNode) where
+  pub too-few : inputs < 2 → no WrongCount ≡ andThen (inputWires t es ws) (λ xs. lowerGate p out (Chain o) xs (withNodes ns es))
+  too-few l = rw (d .are) (few p out o (withNodes ns es) (d .wires) (omega (arith, inputs-length t es ws (d .wires) (d .are), d .count-is)))
+
+  pub chain-made : (w : Word) (rest : List Word) → ws ≡ w ∷ rest → (x : ℕ) → find true t w es ≡ At x
+      → chainWords t p out o 1 x rest (withNodes ns es) ≡ andThen (inputWires t es ws) (λ xs. lowerGate p out (Chain o) xs (withNodes ns es))
+  unfolding lowerGate chained
+  chain-made w rest e x q =
+      let r = inputs-rest t es ws w rest e x q (d .wires) (d .are) in
+      rw (d .are, r .all-are) (chain-words t es p out o rest 1 x ns (r .wires) (r .are))

@@ -1,0 +1,3 @@
+pub mod Operations
+pub mod Gates
+pub mod Walks

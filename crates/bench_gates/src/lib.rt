@@ -1,0 +1,5 @@
+// The gates of BENCH: operations, inputs, and the cells of a chained gate.
+pub mod chains;
+pub mod gates;
+pub mod inputs;
+pub mod operations;

@@ -1,0 +1,2 @@
+pub mod Blif
+pub mod Holding

@@ -1,0 +1,4 @@
+pub mod StoreLaws
+pub mod ReadLaws
+pub mod Sound
+pub mod Examples

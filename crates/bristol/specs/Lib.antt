@@ -1,0 +1,2 @@
+pub mod Bristol
+pub mod Contracts

@@ -1,0 +1,6 @@
+pub mod NumberLaws
+pub mod HeaderLaws
+pub mod OperationLaws
+pub mod InputLaws
+pub mod RowLaws
+pub mod Accepted

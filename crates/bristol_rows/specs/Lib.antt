@@ -1,0 +1,5 @@
+pub mod Numbers
+pub mod Header
+pub mod Operation
+pub mod Row
+pub mod Contracts

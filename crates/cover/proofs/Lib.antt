@@ -1,0 +1,4 @@
+pub mod GateLaws
+pub mod DirectiveLaws
+pub mod RowLaws
+pub mod TableLaws

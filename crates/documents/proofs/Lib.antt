@@ -1,0 +1,10 @@
+pub mod BristolValues
+pub mod BristolGates
+pub mod BristolMeans
+pub mod BristolExamples
+pub mod BlifCover
+pub mod BlifLines
+pub mod BlifValues
+pub mod BlifGates
+pub mod BlifText
+pub mod BlifExamples

@@ -1,0 +1,2 @@
+pub mod BristolFashion
+pub mod BlifDocument

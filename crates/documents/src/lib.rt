@@ -1,0 +1,1 @@
+// What the public documents say a text means, and that the readers agree: definitions and theorems alone.
