@@ -1,4 +1,3 @@
-pub mod BlifSound
 pub mod BenchSound
 pub mod BristolSound
 pub mod Composing

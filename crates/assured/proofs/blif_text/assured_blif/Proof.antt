@@ -2,7 +2,7 @@ use mathlib.Core.Path.{_≡_, refl, sym, ap, _∙_}
 use lib.ListN.{length}
 use denote.Ref.{now}
 use Rattle.blif.specs.Blif.{blif}
-use Rattle.assured.proofs.BlifSound.{blif-sound}
+use Rattle.blif.proofs.Sound.{blif-sound}
 use Rattle.assured.proofs.Composing.{leaves-answer, refused-never, assures}
 use borrow.Author.Needs.{needs}
 use Rattle.assured.proofs.blif_text.assured_blif.Statement.{statement}
