@@ -1,10 +1,12 @@
 -- 01's examples, the refusals in their order, and areas that are one record short, computed from the definition.
 -- Assumes nothing.
 use Prim.Native.Nat.{ℕ}
-use mathlib.Core.Path.{_≡_, refl}
+use mathlib.Core.Path.{_≡_, refl, subst}
 use mathlib.Core.List.{List, [], _∷_, _++_, map}
 use Rattle.laws.specs.Areas.{encodes, capacity}
 use Rattle.laws.specs.Stretches.{stretch, run, sameBytes}
+use Rattle.circuit.specs.declared.refusals.Refusal.the-variants.{NoRoom}
+use Rattle.circuit.specs.declared.refusals.Read.{Read}
 use Rattle.circuit.specs.Refusals.{Try, no, yes, numberOf}
 use Rattle.circuit.specs.Records.{encodeNode, encodeOutput}
 use Rattle.circuit.specs.Circuits.{Circuit}
@@ -14,7 +16,7 @@ use Rattle.text.specs.Lines.{rawLines, uncommented, kept, keptOf, keptLines, li
 use Rattle.text.specs.Joining.{continued, allButLast, part, gather, joinedFrom, logicalLines, ended, joinedText}
 use Rattle.names.specs.Names.{lookup}
 use Rattle.reading.specs.Reading.{bytesFault, textFault, find, addName, addNode, addAlias, addNamed, addInput, addOutput, each, resolve, closed, finish}
-use Rattle.reading.specs.Areas.{readText}
+use Rattle.reading.specs.Areas.{readText, Leaves, Zeroed}
 use Rattle.bench_invocations.specs.Invocations.{argumentsOf, noneEmpty, parts, upToLast, invocation, parseInvocation}
 use Rattle.bench_gates.specs.Operations.{binaryOf, operationOf}
 use Rattle.bench_gates.specs.Gates.{inputWires, chain, chained, lowerGate}
@@ -47,6 +49,20 @@ nand = refl
 many : map read (areas (79 ∷ 85 ∷ 84 ∷ 80 ∷ 85 ∷ 84 ∷ 40 ∷ 121 ∷ 41 ∷ 10 ∷ 121 ∷ 61 ∷ 79 ∷ 82 ∷ 40 ∷ 84 ∷ 82 ∷ 85 ∷ 69 ∷ 44 ∷ 84 ∷ 82 ∷ 85 ∷ 69 ∷ 44 ∷ 84 ∷ 82 ∷ 85 ∷ 69 ∷ 44 ∷ 84 ∷ 82 ∷ 85 ∷ 69 ∷ 44 ∷ 84 ∷ 82 ∷ 85 ∷ 69 ∷ 44 ∷ 84 ∷ 82 ∷ 85 ∷ 69 ∷ 41 ∷ []) 45 4 5 ∷ areas (79 ∷ 85 ∷ 84 ∷ 80 ∷ 85 ∷ 84 ∷ 40 ∷ 121 ∷ 41 ∷ 10 ∷ 121 ∷ 61 ∷ 79 ∷ 82 ∷ 40 ∷ 84 ∷ 82 ∷ 85 ∷ 69 ∷ 44 ∷ 84 ∷ 82 ∷ 85 ∷ 69 ∷ 44 ∷ 84 ∷ 82 ∷ 85 ∷ 69 ∷ 44 ∷ 84 ∷ 82 ∷ 85 ∷ 69 ∷ 44 ∷ 84 ∷ 82 ∷ 85 ∷ 69 ∷ 44 ∷ 84 ∷ 82 ∷ 85 ∷ 69 ∷ 41 ∷ []) 36 4 5 ∷ []) ≡ (2 ∷ 2 ∷ 14 ∷ 2 ∷ 10 ∷ 1 ∷ 1 ∷ 1 ∷ 1 ∷ 2 ∷ 2 ∷ 14 ∷ 2 ∷ 10 ∷ 1 ∷ 2 ∷ 2 ∷ 1 ∷ 2 ∷ 2 ∷ 14 ∷ 2 ∷ 10 ∷ 1 ∷ 3 ∷ 3 ∷ 1 ∷ 2 ∷ 2 ∷ 14 ∷ 2 ∷ 10 ∷ 1 ∷ 4 ∷ 4 ∷ 1 ∷ 2 ∷ 2 ∷ 14 ∷ 1 ∷ 10 ∷ 1 ∷ 0 ∷ 5 ∷ 1 ∷ 1 ∷ 7 ∷ 1 ∷ 0 ∷ 6 ∷ []) ∷ (3 ∷ []) ∷ []
 unfolding read readText bytesFault textFault isAscii capacity joinedText logicalLines joinedFrom gather part continued allButLast keptLines keptOf kept uncommented trim trimStart trimEnd isBlank rawLines ended benchLines lines places each readLine lineStep gateLine gateOf gateInvoked declarationLine declaredIn declare declarationOf parseInvocation invocation argumentsOf noneEmpty parts upToLast trimmed run stretch operationOf binaryOf upper inputWires lowerGate chained chain addInput addOutput addNamed addNode addName addAlias find lookup sameBytes finish resolve closed
 many = refl
+
+-- that gate with one place too few for its steps: whatever the areas held, zeros stand in all of them at the exit
+short : List ℕ
+short = 79 ∷ 85 ∷ 84 ∷ 80 ∷ 85 ∷ 84 ∷ 40 ∷ 121 ∷ 41 ∷ 10 ∷ 121 ∷ 61 ∷ 79 ∷ 82 ∷ 40 ∷ 84 ∷ 82 ∷ 85 ∷ 69 ∷ 44 ∷ 84 ∷ 82 ∷ 85 ∷ 69 ∷ 44 ∷ 84 ∷ 82 ∷ 85 ∷ 69 ∷ 44 ∷ 84 ∷ 82 ∷ 85 ∷ 69 ∷ 44 ∷ 84 ∷ 82 ∷ 85 ∷ 69 ∷ 44 ∷ 84 ∷ 82 ∷ 85 ∷ 69 ∷ 41 ∷ []
+
+short-refused : bench short 128 36 4 5 ≡ no NoRoom
+unfolding short readText bytesFault textFault isAscii capacity joinedText logicalLines joinedFrom gather part continued allButLast keptLines keptOf kept uncommented trim trimStart trimEnd isBlank rawLines ended benchLines lines places each readLine lineStep gateLine gateOf gateInvoked declarationLine declaredIn declare declarationOf parseInvocation invocation argumentsOf noneEmpty parts upToLast trimmed run stretch operationOf binaryOf upper inputWires lowerGate chained chain addInput addOutput addNamed addNode addName addAlias find lookup sameBytes finish resolve closed
+short-refused = refl
+
+short-zeroed : (r : Read) (joined nodes names outputs : List ℕ) → Leaves short (bench short 128 36 4 5) 128 36 4 5 r joined nodes names outputs → Zeroed NoRoom 128 36 4 5 r joined nodes names outputs
+short-zeroed r joined nodes names outputs l = zeroed (subst (λ (c : Try Circuit). Leaves short c 128 36 4 5 r joined nodes names outputs) short-refused l)
+  where
+    zeroed : Leaves short (no NoRoom) 128 36 4 5 r joined nodes names outputs → Zeroed NoRoom 128 36 4 5 r joined nodes names outputs
+    zeroed k = record { answer = k .answer; joined-is = k .joined-is; nodes-is = k .nodes-is; names-is = k .names-is; outputs-is = k .outputs-is }
 
 -- the six tables, with the first input as the first wire: XOR(a, a), constants as inputs, letters in any case
 operations : map read (areas (73 ∷ 78 ∷ 80 ∷ 85 ∷ 84 ∷ 40 ∷ 97 ∷ 41 ∷ 10 ∷ 79 ∷ 85 ∷ 84 ∷ 80 ∷ 85 ∷ 84 ∷ 40 ∷ 121 ∷ 41 ∷ 10 ∷ 121 ∷ 61 ∷ 120 ∷ 111 ∷ 114 ∷ 40 ∷ 97 ∷ 44 ∷ 97 ∷ 41 ∷ []) 45 20 10 ∷ areas (79 ∷ 85 ∷ 84 ∷ 80 ∷ 85 ∷ 84 ∷ 40 ∷ 121 ∷ 41 ∷ 10 ∷ 121 ∷ 61 ∷ 65 ∷ 110 ∷ 100 ∷ 40 ∷ 84 ∷ 82 ∷ 85 ∷ 69 ∷ 44 ∷ 70 ∷ 65 ∷ 76 ∷ 83 ∷ 69 ∷ 41 ∷ []) 45 20 10 ∷ areas (79 ∷ 85 ∷ 84 ∷ 80 ∷ 85 ∷ 84 ∷ 40 ∷ 121 ∷ 41 ∷ 10 ∷ 121 ∷ 61 ∷ 78 ∷ 97 ∷ 110 ∷ 100 ∷ 40 ∷ 84 ∷ 82 ∷ 85 ∷ 69 ∷ 44 ∷ 70 ∷ 65 ∷ 76 ∷ 83 ∷ 69 ∷ 41 ∷ []) 45 20 10 ∷ areas (79 ∷ 85 ∷ 84 ∷ 80 ∷ 85 ∷ 84 ∷ 40 ∷ 121 ∷ 41 ∷ 10 ∷ 121 ∷ 61 ∷ 79 ∷ 114 ∷ 40 ∷ 84 ∷ 82 ∷ 85 ∷ 69 ∷ 44 ∷ 70 ∷ 65 ∷ 76 ∷ 83 ∷ 69 ∷ 41 ∷ []) 45 20 10 ∷ areas (79 ∷ 85 ∷ 84 ∷ 80 ∷ 85 ∷ 84 ∷ 40 ∷ 121 ∷ 41 ∷ 10 ∷ 121 ∷ 61 ∷ 78 ∷ 111 ∷ 114 ∷ 40 ∷ 84 ∷ 82 ∷ 85 ∷ 69 ∷ 44 ∷ 70 ∷ 65 ∷ 76 ∷ 83 ∷ 69 ∷ 41 ∷ []) 45 20 10 ∷ areas (79 ∷ 85 ∷ 84 ∷ 80 ∷ 85 ∷ 84 ∷ 40 ∷ 121 ∷ 41 ∷ 10 ∷ 121 ∷ 61 ∷ 88 ∷ 111 ∷ 114 ∷ 40 ∷ 84 ∷ 82 ∷ 85 ∷ 69 ∷ 44 ∷ 70 ∷ 65 ∷ 76 ∷ 83 ∷ 69 ∷ 41 ∷ []) 45 20 10 ∷ areas (79 ∷ 85 ∷ 84 ∷ 80 ∷ 85 ∷ 84 ∷ 40 ∷ 121 ∷ 41 ∷ 10 ∷ 121 ∷ 61 ∷ 88 ∷ 110 ∷ 111 ∷ 114 ∷ 40 ∷ 84 ∷ 82 ∷ 85 ∷ 69 ∷ 44 ∷ 70 ∷ 65 ∷ 76 ∷ 83 ∷ 69 ∷ 41 ∷ []) 45 20 10 ∷ []) ≡ (1 ∷ 0 ∷ 0 ∷ 1 ∷ 6 ∷ 1 ∷ 0 ∷ 0 ∷ 0 ∷ 2 ∷ 2 ∷ 6 ∷ 1 ∷ 19 ∷ 1 ∷ 0 ∷ 2 ∷ 2 ∷ 1 ∷ 16 ∷ 1 ∷ 0 ∷ 3 ∷ []) ∷ (2 ∷ 2 ∷ 8 ∷ 1 ∷ 10 ∷ 1 ∷ 0 ∷ 1 ∷ 0 ∷ 1 ∷ 7 ∷ 1 ∷ 0 ∷ 2 ∷ []) ∷ (2 ∷ 2 ∷ 7 ∷ 1 ∷ 10 ∷ 1 ∷ 0 ∷ 1 ∷ 0 ∷ 1 ∷ 7 ∷ 1 ∷ 0 ∷ 2 ∷ []) ∷ (2 ∷ 2 ∷ 14 ∷ 1 ∷ 10 ∷ 1 ∷ 0 ∷ 1 ∷ 0 ∷ 1 ∷ 7 ∷ 1 ∷ 0 ∷ 2 ∷ []) ∷ (2 ∷ 2 ∷ 1 ∷ 1 ∷ 10 ∷ 1 ∷ 0 ∷ 1 ∷ 0 ∷ 1 ∷ 7 ∷ 1 ∷ 0 ∷ 2 ∷ []) ∷ (2 ∷ 2 ∷ 6 ∷ 1 ∷ 10 ∷ 1 ∷ 0 ∷ 1 ∷ 0 ∷ 1 ∷ 7 ∷ 1 ∷ 0 ∷ 2 ∷ []) ∷ (2 ∷ 2 ∷ 9 ∷ 1 ∷ 10 ∷ 1 ∷ 0 ∷ 1 ∷ 0 ∷ 1 ∷ 7 ∷ 1 ∷ 0 ∷ 2 ∷ []) ∷ []

@@ -1,0 +1,11 @@
+pub mod Examples
+pub mod ChainBits
+pub mod Values
+pub mod Records
+pub mod GateMeans
+pub mod Naming
+pub mod Growing
+pub mod GateLines
+pub mod LineMeans
+pub mod TextMeans
+pub mod TextExamples

@@ -1,0 +1,4 @@
+pub mod Operations
+pub mod Chains
+pub mod GateMeaning
+pub mod TextMeaning
