@@ -1,147 +1,184 @@
-//! Feeds the same netlists to the reference and to this library and compares every answer and area.
-//! Usage: compare COUNT [SEED]. Prints the counts per format and refusal number, then `N compared, M differ`.
+//! Feeds the same netlists to the reference and to this library, and compares every answer, area and listing.
+//! Usage: compare PROGRAMS COUNT [SEED]             random, boundary and damaged texts
+//!        compare PROGRAMS --files FILE..           the files, the format by the ending
+//!        compare PROGRAMS --record FORMAT FILE..   to standard output the records of crates/replay for the files
+//! PROGRAMS is the folder of the list programs. The last line is `N compared, M differ`; the status is 1 if any differs.
+mod boundaries;
+mod circuits;
+mod expected;
 mod generate;
 mod library;
+mod listing;
 mod reference {
     #![allow(dead_code)]
     include!(concat!(env!("REFERENCE"), "/src/circuit.rs"));
+    pub mod records;
 }
+mod report;
 mod runs;
 
+use expected::{Expected, Lent};
 use generate::{Format, Random};
-use library::{Areas, Read};
-use reference::{BoolCircuit, BoolNode, BoolWire};
-use std::collections::BTreeMap;
+use library::{Areas, Records};
+use report::Report;
+use std::io::Write;
+use std::path::Path;
 
-/// The refusal number of document 01 for an error of the reference.
-fn number(format: Format, error: &str) -> usize {
-    let has = |part: &str| error.contains(part);
-    let starts = |part: &str| error.starts_with(part);
-    match format {
-        Format::Blif => {
-            if starts("duplicate") { 4 }
-            else if has("references undefined wire") || has("is undefined") { 5 }
-            else if has("map the circuit to 2-input gates first") { 6 }
-            else if starts("gate '") { 7 }
-            else if starts("unsupported BLIF directive") { 8 }
-            else if starts(".names requires") || starts("unexpected line") { 9 }
-            else if starts("circuit has no outputs") { 10 }
-            else { 0 }
-        }
-        Format::Bench => {
-            if starts("duplicate") { 4 }
-            else if has("references undefined wire") || (starts("output '") && has("is undefined")) { 5 }
-            else if has("requires one input") || has("requires at least two inputs") || has("requires exactly one wire name") { 6 }
-            else if starts("unsupported BENCH operation") || starts("unexpected BENCH declaration") { 8 }
-            else if starts("gate has an empty output") || starts("expected an invocation") || starts("missing ')'")
-                || starts("invalid invocation") || starts("missing operation") || starts("empty argument") { 9 }
-            else if starts("circuit has no outputs") { 10 }
-            else { 0 }
-        }
-        Format::Bristol => {
-            if starts("Bristol circuit is missing") || starts("Bristol first line") || starts("invalid Bristol gate row") || starts("Bristol gate row has wrong width") { 9 }
-            else if starts("expected an integer") || starts("invalid Bristol gate input count") || starts("invalid Bristol gate output count")
-                || starts("invalid wire") || starts("invalid output wire") { 12 }
-            else if starts("Bristol input header") || starts("Bristol output header") || starts("missing Bristol")
-                || starts("Bristol input/output counts") || starts("Bristol header declares") { 11 }
-            else if starts("Bristol gate '") { 6 }
-            else if starts("output wire") && has("is outside") { 13 }
-            else if starts("gate references undefined wire") || (starts("output wire") && has("is undefined")) { 5 }
-            else if has("requires one input") { 6 }
-            else if starts("unsupported Bristol operation") { 8 }
-            else if has("is assigned more than once") { 14 }
-            else { 0 }
-        }
-    }
-}
+const FORMATS: [Format; 3] = [Format::Blif, Format::Bench, Format::Bristol];
+const OLD: [usize; 6] = [1, 2, 3, 7, 0xDEAD_BEEF, usize::MAX];
 
-fn parse(format: Format, text: &str) -> Result<BoolCircuit, String> {
-    match format {
-        Format::Blif => BoolCircuit::parse_blif(text),
-        Format::Bench => BoolCircuit::parse_bench(text),
-        Format::Bristol => BoolCircuit::parse_bristol(text),
-    }
-}
-
-fn wire_word(wire: &BoolWire) -> usize {
-    match wire {
-        BoolWire::Const(value) => usize::from(*value),
-        BoolWire::Node(node) => node + 2,
-    }
-}
-
-/// What of a circuit is compared: of each node its kind, name, table and wires; of each output its name and wire.
-fn shape(circuit: &BoolCircuit) -> (Vec<(usize, String, usize, Vec<usize>)>, Vec<(String, usize)>) {
-    let nodes = circuit
-        .nodes
-        .iter()
-        .map(|node| match node {
-            BoolNode::Input { name } => (1, name.clone(), 0, Vec::new()),
-            BoolNode::Lut { name, inputs, table } => {
-                let packed = table.iter().enumerate().map(|(j, bit)| usize::from(*bit) << j).sum();
-                (2, name.clone(), packed, inputs.iter().map(wire_word).collect())
+/// A text read into areas of these lengths; the refusal's number, 0 for a circuit.
+fn read_text(format: Format, text: &[u8], lent: &Lent, areas: &mut Areas, old: usize) -> Result<usize, String> {
+    let answer = areas.read(format, text, lent, old);
+    match expected::expected(format, text, lent)? {
+        Expected::Refused(n) => {
+            if answer != (n, 0, 0) {
+                return Err(format!("{n} is expected and the answer is {answer:?}; lent {lent:?}"));
             }
-        })
-        .collect();
-    let outputs = circuit.outputs.iter().map(|(name, wire)| (name.clone(), wire_word(wire))).collect();
-    (nodes, outputs)
-}
-
-/// One text on both sides; what differs, if anything.
-fn compare_text(format: Format, text: &[u8], areas: &mut Areas) -> Result<usize, String> {
-    let ours = areas.read(format, text);
-    let text = std::str::from_utf8(text).map_err(|_| "not ASCII".to_owned())?;
-    match (parse(format, text), ours) {
-        (Err(error), Read::Refused(n)) => {
-            let expected = number(format, &error);
-            if expected != n {
-                return Err(format!("the reference says '{error}' ({expected}), this library {n}"));
+            if !areas.hold(format, &[], &[], &[]) {
+                return Err(format!("{n} leaves something behind; lent {lent:?}"));
             }
-            areas.all_zero()?;
             Ok(n)
         }
-        (Ok(circuit), Read::Circuit { nodes, outputs }) => {
-            let theirs = shape(&circuit);
-            let ours = areas.shape(format, nodes, outputs)?;
-            if theirs != ours {
-                return Err(format!("circuits differ: {theirs:?} and {ours:?}"));
+        Expected::Circuit { circuit, joined, nodes, outputs } => {
+            if answer != (0, circuit.nodes.len(), circuit.outputs.len()) {
+                return Err(format!("a circuit of {} nodes is expected and the answer is {answer:?}; lent {lent:?}", circuit.nodes.len()));
             }
-            runs::compare(&circuit, areas, nodes, outputs)?;
+            if !areas.hold(format, &joined, &nodes, &outputs) {
+                return Err(format!("the areas are not the reference's circuit; lent {lent:?}"));
+            }
+            runs::compare(&circuit, Records { nodes: areas.nodes.first(nodes.len()), outputs: areas.outputs.first(outputs.len()) })?;
             Ok(0)
         }
-        (Err(error), Read::Circuit { .. }) => Err(format!("the reference refuses: '{error}'")),
-        (Ok(_), Read::Refused(n)) => Err(format!("this library refuses: {n}")),
     }
+}
+
+/// Areas that suffice, from just enough to some records more.
+fn enough(format: Format, text: &[u8], random: &mut Random) -> Lent {
+    let mut lent = Lent::exactly(expected::places(format, text), text.len());
+    for words in [&mut lent.joined, &mut lent.nodes, &mut lent.names, &mut lent.outputs, &mut lent.wires] {
+        *words = words.saturating_add([0, 0, 1, 8, 200][random.below(5)]);
+    }
+    // more wires than an area's most are 3, however long it is
+    lent.wires = lent.wires.min(reference::records::MOST + 100);
+    lent
+}
+
+/// One of the areas a little or much shorter than the text asks for.
+fn short(format: Format, text: &[u8], random: &mut Random) -> Lent {
+    let mut lent = enough(format, text, random);
+    let exact = Lent::exactly(expected::places(format, text), text.len());
+    let bristol = format == Format::Bristol;
+    let (words, needed) = match random.below(4) {
+        0 => (&mut lent.nodes, exact.nodes),
+        1 => (&mut lent.outputs, exact.outputs),
+        _ if bristol => (&mut lent.wires, exact.wires),
+        2 => (&mut lent.names, exact.names),
+        _ => (&mut lent.joined, exact.joined),
+    };
+    let needed = needed.min(reference::records::MOST * 9);
+    *words = match random.below(4) {
+        0 => 0,
+        1 => random.below(needed + 1),
+        _ => needed.saturating_sub(1 + random.below(9)),
+    };
+    lent
+}
+
+fn library_text(format: Format, text: &[u8], areas: &mut Areas, random: &mut Random, report: &mut Report) {
+    let old = OLD[random.below(OLD.len())];
+    let lent = enough(format, text, random);
+    report.add("library", format, text, read_text(format, text, &lent, areas, old));
+    let lent = short(format, text, random);
+    report.add("short areas", format, text, read_text(format, text, &lent, areas, old));
+}
+
+fn random_texts(programs: &Path, count: usize, seed: u64) -> Report {
+    let mut report = Report::new();
+    let mut random = Random::new(seed);
+    let mut areas = Areas::new();
+    for format in FORMATS {
+        let small = boundaries::small(format);
+        let large = boundaries::large(format);
+        let texts = generate::texts(format, count / 3, &mut random);
+        for text in small.iter().chain(&large).chain(&texts) {
+            library_text(format, text, &mut areas, &mut random, &mut report);
+        }
+        // a process for each text: all large ones, some of each answer, and every so many of the others
+        let listed = (count / 60).max(150);
+        for (texts, every) in [(&large, 1), (&small, small.len() / listed + 1), (&texts, texts.len() / listed + 1)] {
+            for (k, text) in texts.iter().enumerate() {
+                if k % every == 0 || report.rare("list program", format, &listing::listing(format, text)) {
+                    report.add("list program", format, text, listing::compare(programs, format, text));
+                }
+            }
+        }
+    }
+    for _ in 0..count {
+        report.add_circuit(circuits::compare(&mut random));
+    }
+    report.require_numbers();
+    report
+}
+
+fn format_of(word: &str) -> Option<Format> {
+    let ending = word.rsplit('.').next().unwrap_or("");
+    match ending {
+        "blif" => Some(Format::Blif),
+        "bench" => Some(Format::Bench),
+        "bristol" | "txt" => Some(Format::Bristol),
+        _ => None,
+    }
+}
+
+fn given_files(programs: &Path, names: &[String]) -> Report {
+    let mut report = Report::new();
+    let mut random = Random::new(1);
+    let mut areas = Areas::new();
+    for name in names {
+        let format = format_of(name).unwrap_or_else(|| stop(&format!("{name}: no ending that tells the format")));
+        let text = std::fs::read(name).unwrap_or_else(|e| stop(&format!("{name}: {e}")));
+        match listing::listing(format, &text) {
+            Ok((0, _)) => println!("{name}: accepted"),
+            Ok((n, _)) => println!("{name}: refused {n}"),
+            Err(what) => println!("{name}: {what}"),
+        }
+        library_text(format, &text, &mut areas, &mut random, &mut report);
+        report.add("list program", format, &text, listing::compare(programs, format, &text));
+    }
+    report
+}
+
+/// The records of crates/replay: the length of the text and that of the answer, two bytes each, the higher first; the text; the answer.
+fn record(format: Format, names: &[String]) -> Result<(), String> {
+    for name in names {
+        let text = std::fs::read(name).map_err(|e| format!("{name}: {e}"))?;
+        let (_, answer) = listing::listing(format, &text)?;
+        let sizes: Vec<u8> = [text.len(), answer.len()].iter().map(|n| u16::try_from(*n)).collect::<Result<Vec<u16>, _>>().map_err(|_| format!("{name}: too long for a record"))?.iter().flat_map(|n| n.to_be_bytes()).collect();
+        std::io::stdout().write_all(&[&sizes[..], &text, &answer].concat()).map_err(|e| e.to_string())?;
+    }
+    Ok(())
+}
+
+fn stop(what: &str) -> ! {
+    eprintln!("compare: {what}");
+    std::process::exit(2)
 }
 
 fn main() {
-    let words: Vec<String> = std::env::args().collect();
-    let count: usize = words.get(1).and_then(|w| w.parse().ok()).unwrap_or(3000);
-    let seed: u64 = words.get(2).and_then(|w| w.parse().ok()).unwrap_or(1);
-    let mut random = Random::new(seed);
-    let mut areas = Areas::new(1024, 8192);
-    let mut seen: BTreeMap<(Format, usize), usize> = BTreeMap::new();
-    let mut compared = 0usize;
-    let mut differences: Vec<(Vec<u8>, Format, String)> = Vec::new();
-    for format in [Format::Blif, Format::Bench, Format::Bristol] {
-        for text in generate::texts(format, count / 3, &mut random) {
-            if !generate::in_domain(format, &text) {
-                continue;
-            }
-            compared += 1;
-            match compare_text(format, &text, &mut areas) {
-                Ok(n) => *seen.entry((format, n)).or_default() += 1,
-                Err(what) => differences.push((text, format, what)),
-            }
+    let words: Vec<String> = std::env::args().skip(1).collect();
+    let [programs, first, rest @ ..] = &words[..] else { stop("usage: compare PROGRAMS COUNT [SEED], or --files FILE.., or --record FORMAT FILE..") };
+    let programs = Path::new(programs);
+    let number = |word: &String| word.parse::<u64>().unwrap_or_else(|_| stop(&format!("{word} is no number")));
+    let report = match first.as_str() {
+        "--files" => given_files(programs, rest),
+        "--record" => {
+            let [format, names @ ..] = rest else { stop("--record FORMAT FILE..") };
+            let format = format_of(&format!(".{format}")).unwrap_or_else(|| stop("the format is blif, bench or bristol"));
+            record(format, names).unwrap_or_else(|e| stop(&e));
+            return;
         }
-    }
-    for ((format, n), times) in &seen {
-        println!("{format:?} {} {times}", if *n == 0 { "accepted".to_owned() } else { format!("refused {n}") });
-    }
-    differences.sort_by_key(|(text, _, _)| text.len());
-    for (text, format, what) in differences.iter().take(10) {
-        eprintln!("{format:?}: {what}\n{:?}", String::from_utf8_lossy(text));
-    }
-    println!("{compared} compared, {} differ", differences.len());
-    std::process::exit(i32::from(!differences.is_empty()));
+        _ => random_texts(programs, number(first) as usize, rest.first().map_or(1, number)),
+    };
+    std::process::exit(report.print());
 }

@@ -114,5 +114,7 @@ fn main() {
     replay_file(Format::Blif, b"blif");
     replay_file(Format::Bench, b"bench");
     replay_file(Format::Bristol, b"bristol");
+    replay_file(Format::Blif, b"blif_of_tools");
+    replay_file(Format::Bench, b"bench_of_tools");
     print_longest();
 }
