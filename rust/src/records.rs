@@ -1,0 +1,85 @@
+//! A circuit as the library's records, and back.
+use crate::circuit::{BoolCircuit, BoolNode, BoolWire};
+
+pub const NODE_WORDS: usize = 9;
+pub const OUTPUT_WORDS: usize = 5;
+pub const NAME_WORDS: usize = 4;
+
+const INPUT: usize = 1;
+const CELL: usize = 2;
+const STRETCH: usize = 1;
+const STEP: usize = 2;
+const NUMBER: usize = 3;
+
+/// A table that no cell may have: the record is refused as broken.
+const NO_TABLE: usize = usize::MAX;
+
+fn wire_word(wire: BoolWire) -> usize {
+    match wire {
+        BoolWire::Const(value) => usize::from(value),
+        // no sum that wraps: a number so large is beyond every node count
+        BoolWire::Node(node) => node.saturating_add(2),
+    }
+}
+
+fn word_wire(word: usize) -> BoolWire {
+    match word {
+        0 | 1 => BoolWire::Const(word == 1),
+        _ => BoolWire::Node(word - 2),
+    }
+}
+
+/// The table as a number, entry j being bit j; what is no table of so many wires becomes a number that the check refuses.
+fn packed(wires: usize, table: &[u8]) -> usize {
+    match (wires, table) {
+        (1, &[a, b]) if (a | b) <= 1 => usize::from(a | (b << 1)),
+        (2, &[a, b, c, d]) if (a | b | c | d) <= 1 => usize::from(a | (b << 1) | (c << 2) | (d << 3)),
+        _ => NO_TABLE,
+    }
+}
+
+/// The records of a circuit's nodes and outputs. Names are left out: no call on records looks at them.
+pub fn records(circuit: &BoolCircuit) -> (Vec<usize>, Vec<usize>) {
+    let mut nodes = Vec::with_capacity(NODE_WORDS * circuit.nodes.len());
+    for (id, node) in circuit.nodes.iter().enumerate() {
+        nodes.extend_from_slice(&match node {
+            BoolNode::Input { .. } => [INPUT, 0, 0, NUMBER, id, 0, 0, 0, 0],
+            BoolNode::Lut { inputs, table, .. } => {
+                let wire = |at: usize| inputs.get(at).map_or(0, |wire| wire_word(*wire));
+                [CELL, inputs.len(), packed(inputs.len(), table), NUMBER, id, 0, 0, wire(0), wire(1)]
+            }
+        });
+    }
+    let outputs = circuit.outputs.iter().enumerate().flat_map(|(place, (_, wire))| [NUMBER, place, 0, 0, wire_word(*wire)]).collect();
+    (nodes, outputs)
+}
+
+/// A name's text; `letter` goes before a Bristol wire number.
+fn name(words: &[usize], joined: &[u8], letter: &str) -> String {
+    let stretch = |start: usize, len: usize| String::from_utf8_lossy(&joined[start..start + len]).into_owned();
+    match words[0] {
+        STRETCH => stretch(words[1], words[2]),
+        STEP => format!("{}$bench${}", stretch(words[1], words[2]), words[3]),
+        _ => format!("{letter}{}", words[1]),
+    }
+}
+
+/// The circuit of records that a reader left.
+pub fn circuit(nodes: &[usize], outputs: &[usize], joined: &[u8]) -> BoolCircuit {
+    let mut circuit = BoolCircuit { nodes: Vec::with_capacity(nodes.len() / NODE_WORDS), ..BoolCircuit::default() };
+    for (id, record) in nodes.chunks_exact(NODE_WORDS).enumerate() {
+        let (kind, wires, table) = (record[0], record[1], record[2]);
+        circuit.nodes.push(if kind == INPUT {
+            circuit.inputs.push(id);
+            BoolNode::Input { name: name(&record[3..7], joined, "i_") }
+        } else {
+            BoolNode::Lut {
+                name: name(&record[3..7], joined, "w_"),
+                inputs: record[7..7 + wires].iter().map(|word| word_wire(*word)).collect(),
+                table: (0..1usize << wires).map(|entry| (table >> entry & 1) as u8).collect(),
+            }
+        });
+    }
+    circuit.outputs = outputs.chunks_exact(OUTPUT_WORDS).map(|record| (name(&record[..4], joined, ""), word_wire(record[4]))).collect();
+    circuit
+}
