@@ -11,7 +11,7 @@ use Rattle.names.specs.Names.{Entry}
 use Rattle.reading.specs.Holding.{outcome}
 use Rattle.bench_invocations.specs.Walks.{argumentsFrom}
 use Rattle.bench_gates.specs.Gates.{inputWires}
-use Rattle.bench_gates.specs.Walks.{Driven}
+use Rattle.bench_gates.specs.Walks.{Driven, FirstWires}
 use Rattle.bench.specs.declared.gates.Plan.{Plan}
 use Rattle.bench.specs.declared.declarations.Named.{Named}
 use Rattle.bench.specs.Bench.{Gate, Declared}
@@ -26,6 +26,7 @@ pub record PlanIs (t : List ℕ) (es : List Entry) (out : Word) (p : Plan) (g : 
   pub inside : p .start + p .len ≤ length t
   pub reach : p .end ≤ length t
   pub driven : p .fault ≡ Sound → Driven t es (argumentsFrom t (p .from) (p .end)) (p .inputs)
+  pub firsts : p .fault ≡ Sound → FirstWires t es (argumentsFrom t (p .from) (p .end)) (p .first) (p .second)
 
 -- a declaration, or the fault
 pub record NamedIs (t : List ℕ) (r : Named) (d : Try Declared) : Type 0 where

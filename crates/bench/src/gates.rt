@@ -14,7 +14,7 @@ ghost use Rattle.bench_gates.specs.declared.operations.Operation.the-variants.{
 ghost use Rattle.bench.specs.Bench.{gateInvoked, gateOf, gateLine};
 ghost use Rattle.bench.specs.Plans.{PlanIs};
 use bench_gates::gates::lower_bench_gate;
-use bench_gates::inputs::inputs_fault;
+use bench_gates::inputs::input_wires;
 use bench_gates::operations::Operation;
 use bench_gates::operations::operation_of;
 use bench_invocations::invocation::Invocation;
@@ -27,7 +27,7 @@ use reading::records::Step;
 use reading::records::find_wire;
 use text::words::trim;
 
-// A gate that is read: its output, its operation, where its arguments start and end, and how many they are.
+// A gate that is read: its output, its operation, where its arguments start and end, how many they are, and the wires of the first two.
 pub struct Plan {
     pub fault: Checked,
     pub start: usize,
@@ -36,10 +36,12 @@ pub struct Plan {
     pub from: usize,
     pub end: usize,
     pub inputs: usize,
+    pub first: usize,
+    pub second: usize,
 }
 
 pub fn refused_plan(e: Refusal) -> Plan
-    ensures { λ r. ⌜ r ≡ record { fault = Refused e; start = 0; len = 0; operation = Other; from = 1; end = 0; inputs = 0 } ⌝ }
+    ensures { λ r. ⌜ r ≡ record { fault = Refused e; start = 0; len = 0; operation = Other; from = 1; end = 0; inputs = 0; first = 0; second = 0 } ⌝ }
 {
     Plan {
         fault: Checked::Refused(e),
@@ -49,6 +51,8 @@ pub fn refused_plan(e: Refusal) -> Plan
         from: 1,
         end: 0,
         inputs: 0,
+        first: 0,
+        second: 0,
     }
 }
 
@@ -75,7 +79,8 @@ pub fn plan_inputs(
     if let Checked::Refused(e) = fault {
         return refused_plan(e);
     }
-    let driven = inputs_fault(text, from, end, heads, names, count);
+    let wires = input_wires(text, from, end, heads, names, count);
+    let driven = wires.fault;
     if let Checked::Refused(e) = driven {
         return refused_plan(e);
     }
@@ -88,6 +93,8 @@ pub fn plan_inputs(
         from,
         end,
         inputs: i.count,
+        first: wires.first,
+        second: wires.second,
     }
 }
 
@@ -152,6 +159,8 @@ pub fn gate_line(
             p.from,
             p.end,
             p.inputs,
+            p.first,
+            p.second,
             counts,
             heads,
             nodes,

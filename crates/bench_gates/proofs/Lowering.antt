@@ -5,7 +5,7 @@ use mathlib.Core.Path.{_≡_, refl, sym, ap, _∙_}
 use mathlib.Core.Bool.{true}
 use mathlib.Core.List.{List, [], _∷_}
 use native.Mathlib.Omega.{arith}
-use lib.ListN.{length}
+use lib.ListN.{length, getD}
 use Rattle.circuit.specs.declared.refusals.Refusal.the-variants.{NoDriver, WrongCount, Unknown}
 use Rattle.circuit.specs.declared.refusals.Checked.{Checked}
 use Rattle.circuit.specs.declared.refusals.Checked.the-variants.{Sound, Refused}
@@ -20,8 +20,8 @@ use Rattle.reading.specs.Holding.{outcome}
 use Rattle.bench_gates.specs.declared.operations.Operation.{Operation}
 use Rattle.bench_gates.specs.declared.operations.Operation.the-variants.{Buf, Not, Chain, Other}
 use Rattle.bench_gates.specs.declared.operations.Binary.{Binary}
-use Rattle.bench_gates.specs.Gates.{inputWires, onlyOne, inverter, withNodes, chain, chained, lowerGate}
-use Rattle.bench_gates.specs.Walks.{Driven, chainWords}
+use Rattle.bench_gates.specs.Gates.{inputWires, onlyOne, inverter, lastCell, withNodes, chain, chained, lowerGate}
+use Rattle.bench_gates.specs.Walks.{Driven, FirstWires, chainWords}
 use Rattle.bench_gates.proofs.Drivers.{inputs-none, inputs-more, inputs-rest, inputs-length}
 use Rattle.bench_gates.proofs.Chaining.{chain-words}
 
@@ -96,3 +96,17 @@ module _ (t : List ℕ) (es : List Entry) (ws : List Word) (inputs : ℕ) (d : D
   chain-made w rest e x q =
       let r = inputs-rest t es ws w rest e x q (d .wires) (d .are) in
       rw (d .are, r .all-are) (chain-words t es p out o rest 1 x ns (r .wires) (r .are))
+
+  -- a gate of two inputs is one cell
+  pub pair-made : (first second : ℕ) → FirstWires t es ws first second → inputs ≡ 2
+      → addNamed p out (lastCell out o first second) (withNodes ns es) ≡ andThen (inputWires t es ws) (λ xs. lowerGate p out (Chain o) xs (withNodes ns es))
+  unfolding lowerGate chained chain
+  pair-made first second w two =
+      let f = w (d .wires) (d .are) in
+      rw (d .are, f .0, f .1) (go (d .wires) (omega (arith, inputs-length t es ws (d .wires) (d .are), d .count-is)))
+    where
+      go : (xs : List ℕ) → length xs ≡ 2 → addNamed p out (lastCell out o (getD xs 0 0) (getD xs 1 0)) (withNodes ns es) ≡ lowerGate p out (Chain o) xs (withNodes ns es)
+      go [] l = absurd (omega arith)
+      go (x ∷ []) l = absurd (omega arith)
+      go (x ∷ y ∷ []) l = refl
+      go (x ∷ y ∷ z ∷ zs) l = absurd (omega arith)

@@ -4,7 +4,7 @@ use Prim.Native.Nat.{ℕ, suc, _+_, _≤_, _<_}
 use mathlib.Core.Path.{_≡_}
 use mathlib.Core.Bool.{true}
 use mathlib.Core.List.{List, [], _∷_}
-use lib.ListN.{length}
+use lib.ListN.{length, getD}
 use Rattle.circuit.specs.declared.refusals.Refusal.the-variants.{WrongCount}
 use Rattle.circuit.specs.declared.refusals.Checked.{Checked}
 use Rattle.circuit.specs.declared.refusals.Checked.the-variants.{Sound, Refused}
@@ -17,6 +17,7 @@ use Rattle.reading.specs.Reading.{Places, placesIn, Held, find, driver, addNode
 use Rattle.reading.specs.Holding.{NodesKept}
 use Rattle.bench_invocations.specs.Walks.{argumentsFrom}
 use Rattle.bench_gates.specs.declared.inputs.Wired.{Wired}
+use Rattle.bench_gates.specs.declared.inputs.Inputs.{Inputs}
 use Rattle.bench_gates.specs.declared.operations.Binary.{Binary}
 use Rattle.bench_gates.specs.declared.chains.Chained.{Chained}
 use Rattle.bench_gates.specs.Gates.{inputWires, stepCell, lastCell, withNodes}
@@ -48,6 +49,14 @@ pub record Driven (t : List ℕ) (es : List Entry) (ws : List Word) (count : ℕ
   pub wires : List ℕ
   pub are : inputWires t es ws ≡ yes wires
   pub count-is : count ≡ length ws
+
+-- the wires of the first two inputs
+abbrev pub FirstWires : List ℕ → List Entry → List Word → ℕ → ℕ → Type 0
+FirstWires t es ws first second = (xs : List ℕ) → inputWires t es ws ≡ yes xs → (first ≡ getD xs 0 0) × (second ≡ getD xs 1 0)
+
+pub record InputsAre (t : List ℕ) (es : List Entry) (ws : List Word) (r : Inputs) : Type 0 where
+  pub fault-is : r .fault ≡ faultOf (inputWires t es ws)
+  pub firsts : FirstWires t es ws (r .first) (r .second)
 
 -- `chain`, the wires looked up as they come
 unfoldable pub chainWords : List ℕ → Places → Word → Binary → ℕ → ℕ → List Word → Held → Try Held

@@ -1,11 +1,12 @@
 // The inputs of a gate: the wires of its arguments, one after the other.
 ghost use mathlib.Core.Path.{_≡_};
+ghost use mathlib.Core.Bool.{cond};
 ghost use Prim.Native.Nat.{_+_, _≤_};
 ghost use lib.ListN.{length};
+ghost use lib.Dec.{eqb};
 ghost use Rattle.names.specs.Chains.{entries, Table};
 ghost use Rattle.bench_invocations.specs.Walks.{argumentsFrom};
-ghost use Rattle.bench_gates.specs.Gates.{inputWires};
-ghost use Rattle.bench_gates.specs.Walks.{WiredIs, faultOf};
+ghost use Rattle.bench_gates.specs.Walks.{WiredIs, InputsAre};
 use bench_invocations::arguments::next_argument;
 use circuit::refusals::Checked;
 use circuit::refusals::Refusal;
@@ -37,27 +38,58 @@ pub fn argument_wire(
     Wired { wire, next: a.next }
 }
 
+// 5, or none, and the wires of the first two inputs (0 where there is none).
+pub struct Inputs {
+    pub fault: Checked,
+    pub first: usize,
+    pub second: usize,
+}
+
+// A wire that is kept if it is the one of input k, the n-th being at hand.
+pub fn keep_wire(n: usize, k: usize, wire: usize, kept: usize) -> usize
+    ensures { λ r. ⌜ r ≡ cond (eqb n k) wire kept ⌝ }
+{
+    if n == k {
+        return wire;
+    }
+    kept
+}
+
 // 5 at the first argument without a driver.
-pub fn inputs_fault(
+pub fn input_wires(
     text: &[u8],
     from: usize,
     end: usize,
     heads: &[usize; 256],
     names: &[usize],
     count: usize,
-) -> Checked
+) -> Inputs
     requires { ⌜ Table (now text) (now heads) (now names) count ⌝ }
     requires { ⌜ end ≤ length (now text) ⌝ }
-    ensures { λ r. ⌜ r ≡ faultOf (inputWires (now (text .entry)) (entries (now (names .entry)) count) (argumentsFrom (now (text .entry)) from end)) ⌝ }
+    ensures { λ r. ⌜ InputsAre (now (text .entry)) (entries (now (names .entry)) count) (argumentsFrom (now (text .entry)) from end) r ⌝ }
 {
     let mut at = from;
+    let mut n = 0;
+    let mut first = 0;
+    let mut second = 0;
     while at <= end {
         let a = argument_wire(text, at, end, heads, names, count);
         let wire = a.wire;
-        if let Found::Nothing = wire {
-            return Checked::Refused(Refusal::NoDriver);
-        }
+        let Found::At(x) = wire else {
+            return Inputs {
+                fault: Checked::Refused(Refusal::NoDriver),
+                first: 0,
+                second: 0,
+            };
+        };
+        first = keep_wire(n, 0, x, first);
+        second = keep_wire(n, 1, x, second);
+        n += 1;
         at = a.next;
     }
-    Checked::Sound
+    Inputs {
+        fault: Checked::Sound,
+        first,
+        second,
+    }
 }

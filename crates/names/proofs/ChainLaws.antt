@@ -1,110 +1,203 @@
--- Laws of the chains: a chain holds all that a search has to look at.
+-- Laws of a search: the records on its way, and where it ends.
 -- Assumes nothing.
-use Prim.Native.Nat.{ℕ, zero, suc, _+_, _-_, _*_, _%_, _^_, _≤_, _<_, zero-le}
+use Prim.Native.Nat.{ℕ, zero, suc, _+_, _-_, _*_, _/_, _%_, _^_, _≤_, _<_}
 use mathlib.Core.Path.{_≡_, refl, sym, ap, _∙_}
 use mathlib.Core.Bool.{Bool, true, false, cond}
 use mathlib.Core.List.{List}
 use native.Mathlib.Omega.{arith}
 use lib.ListN.{length, getD}
-use lib.Dec.{eqb}
-use borrow.Author.Tests.{eqb-true, eqb-false}
+use lib.Pow.{shr-shr}
 use Rattle.laws.specs.Stretches.{stretch, sameBytes}
-use Rattle.laws.proofs.Stretches.{rest-step, rest-end, same-eq}
-use Rattle.names.specs.declared.Found.the-variants.{At}
+use Rattle.laws.proofs.Stretches.{same-eq}
+use Rattle.laws.proofs.Tests.{clash, false-of}
+use Rattle.names.specs.declared.Found.{Found}
+use Rattle.names.specs.declared.Found.the-variants.{At, Nothing}
 use Rattle.names.specs.Names.{nameOf, lookup}
-use Rattle.names.specs.Chains.{wrappingSum, bucketOf, entry, entries, bucketAt, latest, Table}
+use Rattle.names.specs.Chains.{bucketOf, trailOf, entry, entries, linkOf, bucketAt, trailAt, agrees, first, firstAfter, reached, Table, Behind, EndsAt}
+use Rattle.names.proofs.Trails.{agrees-makes, reached-at, reached-in, reached-before}
 
--- ---- the sum, one byte further; at the end
+-- ---- how far a search has looked
 
-pub sum-step : (t : List ℕ) (s n i a b : ℕ) → i < n → s + n ≤ length t → b ≡ (a + getD t (s + i) 0) % 2 ^ 32
-    → wrappingSum b (stretch t (s + (i + 1)) (n - (i + 1))) ≡ wrappingSum a (stretch t (s + i) (n - i))
-unfolding wrappingSum
-sum-step t s n i a b h k e = rw (rest-step t s n i h k, e)
+-- the records in front of the one at hand; all of them at the end
+abbrev pub looked : ℕ → ℕ → ℕ
+looked count zero = count
+looked count (suc k) = k
 
-pub sum-end : (t : List ℕ) (s n i a : ℕ) → n ≤ i → a ≡ wrappingSum a (stretch t s (n - i))
-unfolding wrappingSum
-sum-end t s n i a h = rw (rest-end t s n i h)
+-- the records from the one at hand on
+abbrev pub ahead : ℕ → ℕ → ℕ
+ahead count zero = 0
+ahead count (suc k) = count - k
 
--- ---- the last record of a bucket
+-- what the last record with the name says
+abbrev pub wireAt : List ℕ → ℕ → Found
+wireAt names zero = Nothing
+wireAt names (suc k) = At (getD names (k * 4 + 2) 0)
 
-module _ (text names : List ℕ) where
-  latest-le : (b k : ℕ) → latest text names b k ≤ k
-  unfolding latest
-  latest-le b zero = zero-le
-  latest-le b (suc k) = go (eqb (bucketAt text names k) b) (latest-le b k)
+pub no-wire : (names : List ℕ) (last : ℕ) → last ≡ 0 → Nothing ≡ wireAt names last
+no-wire names last e = rw e
+
+pub its-wire : (names : List ℕ) (last : ℕ) → (last ≡ 0 → ⊥) → At (getD names ((last - 1) * 4 + 2) 0) ≡ wireAt names last
+its-wire names zero nz = absurd (nz refl)
+its-wire names (suc k) nz =
+    let e : suc k - 1 ≡ k = omega arith in
+    rw e
+
+module _ (text names : List ℕ) (w : List ℕ) where
+  -- a record that has the name agrees with it in every bit
+  covers : (d j : ℕ) → sameBytes (nameOf text (entry names j)) w ≡ true → agrees text names (bucketOf w) (trailOf w) d j ≡ true
+  unfolding bucketAt trailAt
+  covers d j e =
+      let q = same-eq _ _ e in
+      agrees-makes text names (bucketOf w) (trailOf w) d j (ap bucketOf q) (ap (λ (x : List ℕ). trailOf x % 2 ^ d) q)
+
+  other : (k : ℕ) → sameBytes (nameOf text (entry names k)) w ≡ false → lookup text w (entries names (suc k)) ≡ lookup text w (entries names k)
+  unfolding lookup entries
+  other k e = rw e
+
+  -- a lookup may skip the records up to the first that agrees
+  skip : (d k n : ℕ) → lookup text w (entries names k) ≡ lookup text w (entries names (looked (k + n) (first (agrees text names (bucketOf w) (trailOf w) d) k n)))
+  unfolding first
+  skip d k zero =
+      let e : k ≡ k + 0 = omega arith in
+      ap (λ (m : ℕ). lookup text w (entries names m)) e
+  skip d k (suc n) = go (agrees text names (bucketOf w) (trailOf w) d k) refl (skip d (suc k) n)
     where
-      go : (t : Bool) → latest text names b k ≤ k → cond t (suc k) (latest text names b k) ≤ suc k
-      go true h = omega arith
-      go false h = omega arith
-
-  -- the last of a bucket is the last of that bucket among those up to it
-  latest-fix : (b k : ℕ) → latest text names b (latest text names b k) ≡ latest text names b k
-  unfolding latest
-  latest-fix b zero = refl
-  latest-fix b (suc k) = go (eqb (bucketAt text names k) b) refl (latest-fix b k)
-    where
-      go : (t : Bool) → eqb (bucketAt text names k) b ≡ t → latest text names b (latest text names b k) ≡ latest text names b k
-          → latest text names b (cond t (suc k) (latest text names b k)) ≡ cond t (suc k) (latest text names b k)
-      go true e h = rw e
-      go false e h = h
-
-  -- a search may skip the records of other buckets
-  skip : (w : List ℕ) (k : ℕ) → lookup text w (entries names k) ≡ lookup text w (entries names (latest text names (bucketOf w) k))
-  unfolding latest lookup entries bucketAt
-  skip w zero = refl
-  skip w (suc k) = go (eqb (bucketAt text names k) (bucketOf w)) refl (skip w k)
-    where
-      other : (r : Bool) → sameBytes (nameOf text (entry names k)) w ≡ r → eqb (bucketAt text names k) (bucketOf w) ≡ false → r ≡ false
-      other false e h = refl
-      other true e h = absurd (eqb-false _ _ h (ap bucketOf (same-eq _ _ e)))
-
-      go : (t : Bool) → eqb (bucketAt text names k) (bucketOf w) ≡ t → lookup text w (entries names k) ≡ lookup text w (entries names (latest text names (bucketOf w) k))
-          → cond (sameBytes (nameOf text (entry names k)) w) (At (entry names k .wire)) (lookup text w (entries names k))
-          ≡ lookup text w (entries names (cond t (suc k) (latest text names (bucketOf w) k)))
+      go : (t : Bool) → agrees text names (bucketOf w) (trailOf w) d k ≡ t
+          → lookup text w (entries names (suc k)) ≡ lookup text w (entries names (looked (suc k + n) (first (agrees text names (bucketOf w) (trailOf w) d) (suc k) n)))
+          → lookup text w (entries names k)
+          ≡ lookup text w (entries names (looked (k + suc n) (cond t (suc k) (first (agrees text names (bucketOf w) (trailOf w) d) (suc k) n))))
       go true e h = refl
-      go false e h = rw (other (sameBytes (nameOf text (entry names k)) w) refl e) h
+      go false e h =
+          let q : suc k + n ≡ k + suc n = omega arith in
+          sym (other k (false-of _ (λ s. clash (covers d k s) e)))
+          ∙ h
+          ∙ ap (λ (m : ℕ). lookup text w (entries names (looked m (first (agrees text names (bucketOf w) (trailOf w) d) (suc k) n)))) q
 
--- ---- a search along a chain
+  -- the search before its first record
+  pub looked-none : (count : ℕ) → lookup text w (entries names (looked count (reached text names count (bucketOf w) (trailOf w) 0))) ≡ Nothing
+  unfolding reached lookup entries
+  looked-none count =
+      let e : 0 + count ≡ count = omega arith in
+      sym (rw e at (skip 0 0 count))
+
+  -- the search before its next record
+  pub looked-next : (count d k : ℕ) → reached text names count (bucketOf w) (trailOf w) d ≡ suc k
+      → lookup text w (entries names (looked count (reached text names count (bucketOf w) (trailOf w) (suc d)))) ≡ lookup text w (entries names (suc k))
+  unfolding reached firstAfter
+  looked-next count d k e =
+      let l = reached-at text names count (bucketOf w) (trailOf w) d k e .0 in
+      let q : suc k + (count - suc k) ≡ count = omega arith in
+      rw e (sym (rw q at (skip (suc d) (suc k) (count - suc k))))
+
+  -- the record at hand has the name or not
+  pub looked-here : (k last : ℕ) → wireAt names last ≡ lookup text w (entries names k)
+      → wireAt names (cond (sameBytes (stretch text (getD names (k * 4) 0) (getD names (k * 4 + 1) 0)) w) (suc k) last) ≡ lookup text w (entries names (suc k))
+  unfolding lookup entries entry
+  looked-here k last e = go (sameBytes (stretch text (getD names (k * 4) 0) (getD names (k * 4 + 1) 0)) w)
+    where
+      go : (t : Bool) → wireAt names (cond t (suc k) last) ≡ cond t (At (getD names (k * 4 + 2) 0)) (lookup text w (entries names k))
+      go true = refl
+      go false = e
+
+-- ---- a turn of the search
+
+-- after d links: the record at hand and the rest of the trail
+pub record On (text names : List ℕ) (count : ℕ) (w : List ℕ) (at trail : ℕ) : Type 0 where
+  pub depth : ℕ
+  pub here : at ≡ reached text names count (bucketOf w) (trailOf w) depth
+  pub rest : trail ≡ trailOf w / 2 ^ depth
+
+-- with the last record that had the name
+pub record Searched (text names : List ℕ) (count : ℕ) (w : List ℕ) (at trail last : ℕ) : Type 0 where
+  pub on : On text names count w at trail
+  pub so-far : wireAt names last ≡ lookup text w (entries names (looked count at))
+  pub bound : last ≤ count
+
+-- with the record before, and the bit that chose its link
+pub record Walked (text names : List ℕ) (count : ℕ) (w : List ℕ) (at trail last bit : ℕ) : Type 0 where
+  pub on : On text names count w at trail
+  pub behind : Behind (reached text names count (bucketOf w) (trailOf w)) (trailOf w) last bit (on .depth)
+
+rest-next : (h d : ℕ) → h / 2 ^ d / 2 ≡ h / 2 ^ suc d
+rest-next h d =
+    let e : d + 1 ≡ suc d = omega arith in
+    shr-shr h d 1 ∙ ap (λ (n : ℕ). h / 2 ^ n) e
+
+rest-start : (h : ℕ) → h ≡ h / 2 ^ 0
+rest-start h = omega arith
 
 module _ (text heads names : List ℕ) (count : ℕ) (ok : Table text heads names count) (w : List ℕ) where
-  -- from a head on there is all that the search has to look at
-  pub chain-start : (b : ℕ) → b ≡ bucketOf w → b < 256
-      → (getD heads b 0 ≤ count)
-      × (latest text names (bucketOf w) (getD heads b 0) ≡ getD heads b 0)
-      × (lookup text w (entries names (getD heads b 0)) ≡ lookup text w (entries names count))
-  chain-start b e h =
-      let q : getD heads b 0 ≡ latest text names (bucketOf w) count = ok .head b h ∙ ap (λ (d : ℕ). latest text names d count) e in
-      rw q (latest-le text names (bucketOf w) count, latest-fix text names (bucketOf w) count, sym (skip text names w count))
+  pub at-in : (at trail : ℕ) → On text names count w at trail → at ≤ count
+  at-in at trail o = omega (arith, o .here, reached-in text names count (bucketOf w) (trailOf w) (o .depth))
 
-  -- the record at hand is of the bucket
-  here : (k : ℕ) → latest text names (bucketOf w) (suc k) ≡ suc k → bucketAt text names k ≡ bucketOf w
-  unfolding latest
-  here k fix = go (eqb (bucketAt text names k) (bucketOf w)) refl fix
+  -- the first record
+  on-start : (b : ℕ) → b ≡ bucketOf w → b < 256 → getD heads b 0 ≡ reached text names count (bucketOf w) (trailOf w) 0
+  on-start b e l = ok .head b (trailOf w) l ∙ ap (λ (d : ℕ). reached text names count d (trailOf w) 0) e
+
+  -- the next record
+  on-next : (k trail : ℕ) (o : On text names count w (suc k) trail)
+      → linkOf (getD names (k * 4 + 3) 0) (trail % 2) ≡ reached text names count (bucketOf w) (trailOf w) (suc (o .depth))
+  on-next k trail o = ap (λ (x : ℕ). linkOf (getD names (k * 4 + 3) 0) (x % 2)) (o .rest) ∙ ok .link (bucketOf w) (trailOf w) (o .depth) k (sym (o .here))
+
+  rest-after : (at trail : ℕ) (o : On text names count w at trail) → trail / 2 ≡ trailOf w / 2 ^ suc (o .depth)
+  rest-after at trail o = ap (λ (x : ℕ). x / 2) (o .rest) ∙ rest-next (trailOf w) (o .depth)
+
+  -- it is nearer to the end
+  pub on-less : (at trail : ℕ) → (at ≡ 0 → ⊥) → On text names count w at trail → ahead count (linkOf (getD names ((at - 1) * 4 + 3) 0) (trail % 2)) < ahead count at
+  on-less zero trail nz o = absurd (nz refl)
+  on-less (suc k) trail nz o =
+      let e : suc k - 1 ≡ k = omega arith in
+      rw (e, on-next k trail o) (go (reached text names count (bucketOf w) (trailOf w) (suc (o .depth))) refl)
     where
-      go : (t : Bool) → eqb (bucketAt text names k) (bucketOf w) ≡ t → cond t (suc k) (latest text names (bucketOf w) k) ≡ suc k → bucketAt text names k ≡ bucketOf w
-      go true e f = eqb-true _ _ e
-      go false e f = absurd (omega (arith, latest-le text names (bucketOf w) k))
+      go : (x : ℕ) → reached text names count (bucketOf w) (trailOf w) (suc (o .depth)) ≡ x → ahead count x < count - k
+      go zero q = omega (arith, at-in (suc k) trail o)
+      go (suc j) q =
+          let f = reached-before text names count (bucketOf w) (trailOf w) (o .depth) j q in
+          omega (arith, f .2, f .1, o .here, reached-at text names count (bucketOf w) (trailOf w) (suc (o .depth)) j q .0)
 
-  -- the record at hand has the name
-  pub hit : (at : ℕ) → (at ≡ 0 → ⊥) → sameBytes (stretch text (getD names ((at - 1) * 4) 0) (getD names ((at - 1) * 4 + 1) 0)) w ≡ true
-      → At (getD names ((at - 1) * 4 + 2) 0) ≡ lookup text w (entries names at)
-  unfolding lookup entries entry
-  hit zero nz s = absurd (nz refl)
-  hit (suc k) nz s =
-      let e : suc k - 1 ≡ k = omega arith in
-      let s' : sameBytes (stretch text (getD names (k * 4) 0) (getD names (k * 4 + 1) 0)) w ≡ true = rw e at s in
-      rw (e, s')
+  -- ---- for the wire of a name
 
-  -- it has not, and the search goes on with its next
-  pub turn : (at : ℕ) → (at ≡ 0 → ⊥) → at ≤ count → latest text names (bucketOf w) at ≡ at
-      → sameBytes (stretch text (getD names ((at - 1) * 4) 0) (getD names ((at - 1) * 4 + 1) 0)) w ≡ false
-      → (getD names ((at - 1) * 4 + 3) 0 < at)
-      × (latest text names (bucketOf w) (getD names ((at - 1) * 4 + 3) 0) ≡ getD names ((at - 1) * 4 + 3) 0)
-      × (lookup text w (entries names (getD names ((at - 1) * 4 + 3) 0)) ≡ lookup text w (entries names at))
-  unfolding lookup entries entry
-  turn zero nz le fix s = absurd (nz refl)
-  turn (suc k) nz le fix s =
+  pub search-start : (b : ℕ) → b ≡ bucketOf w → b < 256 → Searched text names count w (getD heads b 0) (trailOf w) 0
+  search-start b e l =
+      let q = on-start b e l in
+      record { on = record { depth = 0; here = q; rest = rest-start (trailOf w) }; so-far = sym (rw q (looked-none text names w count)); bound = omega arith }
+
+  pub search-next : (at trail last : ℕ) → (at ≡ 0 → ⊥) → Searched text names count w at trail last
+      → Searched text names count w
+      (linkOf (getD names ((at - 1) * 4 + 3) 0) (trail % 2)) (trail / 2)
+      (cond (sameBytes (stretch text (getD names ((at - 1) * 4) 0) (getD names ((at - 1) * 4 + 1) 0)) w) at last)
+  search-next zero trail last nz s = absurd (nz refl)
+  search-next (suc k) trail last nz s =
       let e : suc k - 1 ≡ k = omega arith in
-      let s' : sameBytes (stretch text (getD names (k * 4) 0) (getD names (k * 4 + 1) 0)) w ≡ false = rw e at s in
-      let q : getD names (k * 4 + 3) 0 ≡ latest text names (bucketOf w) k = ok .next k (omega arith) ∙ ap (λ (d : ℕ). latest text names d k) (here k fix) in
-      rw (e, q, s') (omega (arith, latest-le text names (bucketOf w) k), latest-fix text names (bucketOf w) k, sym (skip text names w k))
+      let q = on-next k trail (s .on) in
+      let here = looked-here text names w k last (s .so-far) in
+      rw e (record {
+        on = record { depth = suc (s .on .depth); here = q; rest = rest-after (suc k) trail (s .on) };
+        so-far = here ∙ sym (rw q (looked-next text names w count (s .on .depth) k (sym (s .on .here))));
+        bound = within (sameBytes (stretch text (getD names (k * 4) 0) (getD names (k * 4 + 1) 0)) w);
+      })
+    where
+      within : (t : Bool) → cond t (suc k) last ≤ count
+      within true = at-in (suc k) trail (s .on)
+      within false = s .bound
+
+  pub search-end : (at trail last : ℕ) → at ≡ 0 → Searched text names count w at trail last → wireAt names last ≡ lookup text w (entries names count)
+  search-end at trail last z s = s .so-far ∙ ap (λ (x : ℕ). lookup text w (entries names (looked count x))) z
+
+  -- ---- for the end
+
+  pub walk-start : (b : ℕ) → b ≡ bucketOf w → b < 256 → Walked text names count w (getD heads b 0) (trailOf w) 0 0
+  walk-start b e l = record { on = record { depth = 0; here = on-start b e l; rest = rest-start (trailOf w) }; behind = refl }
+
+  pub walk-next : (at trail last bit : ℕ) → (at ≡ 0 → ⊥) → Walked text names count w at trail last bit
+      → Walked text names count w (linkOf (getD names ((at - 1) * 4 + 3) 0) (trail % 2)) (trail / 2) at (trail % 2)
+  walk-next zero trail last bit nz s = absurd (nz refl)
+  walk-next (suc k) trail last bit nz s =
+      let e : suc k - 1 ≡ k = omega arith in
+      rw e (record {
+        on = record { depth = suc (s .on .depth); here = on-next k trail (s .on); rest = rest-after (suc k) trail (s .on) };
+        behind = (sym (s .on .here), nz, ap (λ (x : ℕ). x % 2) (s .on .rest));
+      })
+
+  pub walk-end : (at trail last bit : ℕ) → at ≡ 0 → Walked text names count w at trail last bit → EndsAt text names count w last bit
+  walk-end at trail last bit z s = record { depth = s .on .depth; ended = sym (s .on .here) ∙ z; behind = s .behind }

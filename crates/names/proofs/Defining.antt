@@ -1,151 +1,210 @@
 -- One record more keeps the table in order.
 -- Assumes nothing.
-use Prim.Native.Nat.{ℕ, zero, suc, _+_, _*_, _≤_, _<_}
-use mathlib.Core.Path.{_≡_, refl, sym, ap, _∙_}
-use mathlib.Core.Bool.{Bool, true, false, cond}
+use Prim.Native.Nat.{ℕ, zero, suc, _+_, _-_, _*_, _/_, _%_, _^_, _≤_, _<_}
+use mathlib.Core.Path.{_≡_, refl, sym, ap, ap₂, _∙_}
+use mathlib.Core.Logic.{_⊎_, inl, inr, ⊎-elim}
+use mathlib.Core.Bool.{Bool, true, false, cond, true≢false}
 use mathlib.Core.List.{List, _∷_}
 use native.Mathlib.Omega.{arith}
-use native.Mathlib.Numerals.{add-one}
-use native.Mathlib.Nat.{le-refl, le-of-lt}
-use borrow.Author.Count.{below-more}
-use lib.ListN.{length, getD, set, length-set}
-use lib.Seq.{getD-set-same, getD-set-other}
-use lib.Dec.{eqb}
-use borrow.Author.Tests.{eqb-true, eqb-false}
+use native.Mathlib.Nat.{le-refl}
+use lib.ListN.{length, getD}
+use lib.Dec.{ltb}
+use borrow.Author.Tests.{ltb-true, ltb-false}
 use Rattle.laws.specs.Stretches.{stretch}
-use Rattle.names.specs.Chains.{bucketOf, entry, entries, bucketAt, latest, Table, Defined}
+use Rattle.laws.proofs.Tests.{false-of}
+use Rattle.names.specs.Names.{nameOf}
+use Rattle.names.specs.Chains.{bucketOf, trailOf, entry, entries, bucketAt, trailAt, agrees, first, firstAfter, reached, linkOf, linkUnit, Table, Behind, EndsAt}
+use Rattle.names.proofs.First.{first-same, after-same}
+use Rattle.names.proofs.Trails.{fewer-bits, same-bit, more-bits, agrees-means, agrees-makes, reached-at, reached-in, reached-same, reached-earlier, reached-kept, reached-first, reached-next, reached-last, reached-old}
 
--- ---- two areas that agree on the first n records
+-- ---- two areas that agree on the first n records but for their links
 
-module _ (text names after : List ℕ) (n : ℕ) (old : (i : ℕ) → i < n * 4 → getD after i 0 ≡ getD names i 0) where
-  entry-old : (k : ℕ) → k < n → entry after k ≡ entry names k
-  unfolding entry
-  entry-old k h = rw (old (k * 4) (omega arith), old (k * 4 + 1) (omega arith), old (k * 4 + 2) (omega arith))
-
-  bucketAt-old : (k : ℕ) → k < n → bucketAt text after k ≡ bucketAt text names k
-  unfolding bucketAt
-  bucketAt-old k h = rw (entry-old k h)
-
-  latest-old : (b k : ℕ) → k ≤ n → latest text after b k ≡ latest text names b k
-  unfolding latest
-  latest-old b zero h = refl
-  latest-old b (suc k) h = rw (bucketAt-old k h, latest-old b k (omega arith))
-
-  entries-old : (k : ℕ) → k ≤ n → entries after k ≡ entries names k
+module _ (text names after : List ℕ) (n : ℕ) (old : (k : ℕ) → k < n → entry after k ≡ entry names k) where
+  pub entries-old : (k : ℕ) → k ≤ n → entries after k ≡ entries names k
   unfolding entries
   entries-old zero h = refl
-  entries-old (suc k) h = rw (entry-old k h, entries-old k (omega arith))
+  entries-old (suc k) h = rw (old k h, entries-old k (omega arith))
 
--- ---- a record after the first n
+  agrees-old : (b h d k : ℕ) → k < n → agrees text after b h d k ≡ agrees text names b h d k
+  unfolding agrees bucketAt trailAt
+  agrees-old b h d k l = rw (old k l)
 
-module _
-    (text heads names after : List ℕ)
-    (count start len wire b : ℕ)
-    (ok : Table text heads names count)
-    (fits : start + len ≤ length text)
-    (room : count * 4 + 4 ≤ length after)
-    (old : (i : ℕ) → i < count * 4 → getD after i 0 ≡ getD names i 0)
-    (start-is : getD after (count * 4) 0 ≡ start)
-    (len-is : getD after (count * 4 + 1) 0 ≡ len)
-    (wire-is : getD after (count * 4 + 2) 0 ≡ wire)
-    (next-is : getD after (count * 4 + 3) 0 ≡ getD heads b 0)
-    (bucket : b ≡ bucketOf (stretch text start len))
-    (small : b < 256)
-  where
-    more-entries : entries after (count + 1) ≡ record { start = start; len = len; wire = wire } ∷ entries names count
-    unfolding entries entry
-    more-entries = rw (add-one count, start-is, len-is, wire-is, entries-old text names after count old count (le-refl count))
+  pub reached-of-old : (b h d : ℕ) → reached text after n b h d ≡ reached text names n b h d
+  unfolding reached
+  reached-of-old b h zero = first-same (agrees text after b h 0) (agrees text names b h 0) 0 n (λ j l. agrees-old b h 0 j (omega arith))
+  reached-of-old b h (suc d) =
+      ap (firstAfter (agrees text after b h (suc d)) n) (reached-of-old b h d)
+      ∙ after-same (agrees text after b h (suc d)) (agrees text names b h (suc d)) n (reached text names n b h d) (reached-in text names n b h d) (λ j l. agrees-old b h (suc d) j l)
 
-    new-bucket : bucketAt text after count ≡ b
-    unfolding bucketAt entry
-    new-bucket = rw (start-is, len-is, bucket)
+-- ---- where the search for the new record's name ended, and nowhere else, the new record comes
 
-    in-text : (k : ℕ) → k < count + 1 → getD after (k * 4) 0 + getD after (k * 4 + 1) 0 ≤ length text
-    in-text =
-        below-more (λ (k : ℕ). getD after (k * 4) 0 + getD after (k * 4 + 1) 0 ≤ length text) count
-        (λ k h. rw (old (k * 4) (omega arith), old (k * 4 + 1) (omega arith)) (ok .inside k h))
-        (rw (start-is, len-is) fits)
+-- the area `after` holds a new record, of bucket c and trail g; before it, a search for its name ended at depth e, behind a head or a link
+module _ (text after : List ℕ) (count c g last bit : ℕ) (bucket-is : bucketAt text after count ≡ c) (trail-is : trailAt text after count ≡ g) where
+  -- what a search came to without the new record, and what it comes to with it
+  abbrev at : ℕ → ℕ → ℕ → ℕ
+  at b h d = reached text after count b h d
 
-    nexts : (k : ℕ) → k < count + 1 → getD after (k * 4 + 3) 0 ≡ latest text after (bucketAt text after k) k
-    nexts =
-        below-more (λ (k : ℕ). getD after (k * 4 + 3) 0 ≡ latest text after (bucketAt text after k) k) count
-        (λ k h. rw (old (k * 4 + 3) (omega arith), bucketAt-old text names after count old k h, latest-old text names after count old (bucketAt text names k) k (le-of-lt h)) (ok .next k h))
-        (next-is ∙ ok .head b small ∙ sym (latest-old text names after count old b count (le-refl count)) ∙ ap (λ (d : ℕ). latest text after d count) (sym new-bucket))
+  abbrev next : ℕ → ℕ → ℕ → ℕ
+  next b h d = reached text after (suc count) b h d
 
-    firsts : (d : ℕ) → d < 256 → getD (set heads b (count + 1)) d 0 ≡ latest text after d (count + 1)
-    unfolding latest
-    firsts d h = rw (add-one count, new-bucket) (go (eqb b d) refl)
+  agrees-new : (b h d : ℕ) → c ≡ b → g % 2 ^ d ≡ h % 2 ^ d → agrees text after b h d count ≡ true
+  agrees-new b h d p q = agrees-makes text after b h d count (bucket-is ∙ p) (ap (λ (x : ℕ). x % 2 ^ d) trail-is ∙ q)
+
+  agrees-then : (b h d : ℕ) → agrees text after b h d count ≡ true → (c ≡ b) × (g % 2 ^ d ≡ h % 2 ^ d)
+  agrees-then b h d e =
+      let m = agrees-means text after b h d count e in
+      (sym bucket-is ∙ m .0, ap (λ (x : ℕ). x % 2 ^ d) (sym trail-is) ∙ m .1)
+
+  no-bits : (x y : ℕ) → x % 2 ^ 0 ≡ y % 2 ^ 0
+  no-bits x y = omega arith
+
+  -- a search comes to nothing after its end
+  none-after : (h d n : ℕ) → at c h d ≡ 0 → (k : ℕ) → at c h (n + d) ≡ suc k → ⊥
+  none-after h d zero z k e =
+      let q : 0 + d ≡ d = omega arith in
+      omega (arith, z, rw q at e)
+  none-after h d (suc n) z k e =
+      let q : suc n + d ≡ suc (n + d) = omega arith in
+      let f = reached-earlier text after count c h d n k (rw q at e) in
+      omega (arith, z, f .1)
+
+  none-later : (h d e k : ℕ) → d ≤ e → at c h d ≡ 0 → at c h e ≡ suc k → ⊥
+  none-later h d e k l z q =
+      let r : e - d + d ≡ e = omega arith in
+      none-after h d (e - d) z k (ap (at c h) r ∙ q)
+
+  -- it ends at one depth alone
+  one-end : (d e k j : ℕ) → at c g d ≡ suc k → at c g (suc d) ≡ 0 → at c g e ≡ suc j → at c g (suc e) ≡ 0 → d ≡ e
+  one-end d e k j p z q y =
+      let one : d < e → ⊥ = λ l. none-later g (suc d) e j l z q in
+      let two : e < d → ⊥ = λ l. none-later g (suc e) d k l y p in
+      omega (arith, one, two)
+
+  -- it comes to a record at one depth alone
+  not-again : (h d e k : ℕ) → d < e → at c h d ≡ suc k → at c h e ≡ suc k → ⊥
+  not-again h d e k l p q =
+      let r : e ≡ suc (e - suc d + d) = omega arith in
+      let f = reached-earlier text after count c h d (e - suc d) k (ap (at c h) (sym r) ∙ q) in
+      omega (arith, f .1, f .2, p)
+
+  same-place : (h d e k : ℕ) → at c h d ≡ suc k → at c g e ≡ suc k → (d ≡ e) × (h % 2 ^ d ≡ g % 2 ^ d)
+  same-place h d e k p q =
+      let t = trailAt text after k in
+      let m = reached-at text after count c h d k p .2 in
+      let n = reached-at text after count c g e k q .2 in
+      let u : at c t d ≡ suc k = reached-same text after count c t h d m ∙ p in
+      let v : at c t e ≡ suc k = reached-same text after count c t g e n ∙ q in
+      let one : d < e → ⊥ = λ l. not-again t d e k l u v in
+      let two : e < d → ⊥ = λ l. not-again t e d k l v u in
+      let s : d ≡ e = omega (arith, one, two) in
+      (s, sym m ∙ ap (λ (x : ℕ). t % 2 ^ x) s ∙ n ∙ ap (λ (x : ℕ). g % 2 ^ x) (sym s))
+
+  module _ (e : ℕ) (ended : at c g e ≡ 0) (behind : Behind (at c g) g last bit e) where
+    -- behind a record: its depth, and the bit
+    after-record : (k : ℕ) → last ≡ suc k → (d : ℕ) × (at c g d ≡ suc k) × (at c g (suc d) ≡ 0) × (bit ≡ g / 2 ^ d % 2)
+    after-record k q = go e ended behind
       where
-        go : (t : Bool) → eqb b d ≡ t → getD (set heads b (suc count)) d 0 ≡ cond t (suc count) (latest text after d count)
-        go true e =
-            let q : b ≡ d = eqb-true b d e in
-            rw (← q) (getD-set-same heads b (suc count) 0 (omega (arith, ok .heads-sized)))
-        go false e =
-            getD-set-other heads b d (suc count) 0 (λ q. eqb-false b d e (sym q))
-            ∙ ok .head d h
-            ∙ sym (latest-old text names after count old d count (le-refl count))
+        go : (d : ℕ) → at c g d ≡ 0 → Behind (at c g) g last bit d → (d : ℕ) × (at c g d ≡ suc k) × (at c g (suc d) ≡ 0) × (bit ≡ g / 2 ^ d % 2)
+        go zero z f = absurd (omega (arith, f, q))
+        go (suc d) z f = (d, f .0 ∙ q, z, f .2)
 
-    more-table : Table text (set heads b (count + 1)) after (count + 1)
-    more-table = record { heads-sized = length-set heads b (count + 1) ∙ ok .heads-sized; room = omega arith; inside = in-text; next = nexts; head = firsts }
+    -- behind a head
+    after-head : last ≡ 0 → at c g 0 ≡ 0
+    after-head q = go e ended behind
+      where
+        go : (d : ℕ) → at c g d ≡ 0 → Behind (at c g) g last bit d → at c g 0 ≡ 0
+        go zero z f = z
+        go (suc d) z f = absurd (f .1 q)
 
--- ---- the four words of a record, stored one after the other
+    -- where a search for the new name ends, there is the end
+    end-record : (d k : ℕ) → at c g d ≡ suc k → at c g (suc d) ≡ 0 → (last ≡ suc k) × (bit ≡ g / 2 ^ d % 2)
+    end-record d k p z = go e ended behind
+      where
+        step : (d' j : ℕ) → at c g d' ≡ suc j → at c g (suc d') ≡ 0 → last ≡ suc j → bit ≡ g / 2 ^ d' % 2 → (last ≡ suc k) × (bit ≡ g / 2 ^ d % 2)
+        step d' j q y l b =
+            let s : d' ≡ d = one-end d' d j k q y p z in
+            (l ∙ sym q ∙ ap (at c g) s ∙ p, b ∙ ap (λ (x : ℕ). g / 2 ^ x % 2) s)
 
-module _ (l : List ℕ) (p start len wire next : ℕ) (room : p + 4 ≤ length l) where
-  abbrev with-start : List ℕ
-  with-start = set l p start
+        known : (x : ℕ) → last ≡ x → (d' : ℕ) → at c g (suc d') ≡ 0 → at c g d' ≡ last → (last ≡ 0 → ⊥) → bit ≡ g / 2 ^ d' % 2 → (last ≡ suc k) × (bit ≡ g / 2 ^ d % 2)
+        known zero q d' y f nz b = absurd (nz q)
+        known (suc j) q d' y f nz b = step d' j (f ∙ q) y q b
 
-  abbrev with-len : List ℕ
-  with-len = set with-start (p + 1) len
+        go : (d' : ℕ) → at c g d' ≡ 0 → Behind (at c g) g last bit d' → (last ≡ suc k) × (bit ≡ g / 2 ^ d % 2)
+        go zero y f = absurd (none-later g 0 d k (omega arith) y p)
+        go (suc d') y f = known last refl d' y (f .0) (f .1) (f .2)
 
-  abbrev with-wire : List ℕ
-  with-wire = set with-len (p + 2) wire
+    end-head : at c g 0 ≡ 0 → last ≡ 0
+    end-head z = go e behind
+      where
+        known : (x : ℕ) → last ≡ x → (d : ℕ) → at c g d ≡ last → last ≡ 0
+        known zero q d f = q
+        known (suc j) q d f = absurd (none-later g 0 d j (omega arith) z (f ∙ q))
 
-  abbrev put : List ℕ
-  put = set with-wire (p + 3) next
+        go : (d : ℕ) → Behind (at c g) g last bit d → last ≡ 0
+        go zero f = f
+        go (suc d) f = known last refl d (f .0)
 
-  put-old : (i : ℕ) → i < p → getD put i 0 ≡ getD l i 0
-  put-old i h =
-      getD-set-other with-wire (p + 3) i next 0 (omega arith)
-      ∙ getD-set-other with-len (p + 2) i wire 0 (omega arith)
-      ∙ getD-set-other with-start (p + 1) i len 0 (omega arith)
-      ∙ getD-set-other l p i start 0 (omega arith)
+    -- ---- the heads
 
-  put-start : getD put p 0 ≡ start
-  put-start =
-      getD-set-other with-wire (p + 3) p next 0 (omega arith)
-      ∙ getD-set-other with-len (p + 2) p wire 0 (omega arith)
-      ∙ getD-set-other with-start (p + 1) p len 0 (omega arith)
-      ∙ getD-set-same l p start 0 (omega arith)
+    module _ (heads heads' : List ℕ) (old : (b h : ℕ) → b < 256 → getD heads b 0 ≡ at b h 0)
+        (same : (b : ℕ) → b < 256 → (last ≡ 0 → b ≡ c → ⊥) → getD heads' b 0 ≡ getD heads b 0) (new : last ≡ 0 → getD heads' c 0 ≡ suc count) where
+      pub more-heads : (b h : ℕ) → b < 256 → getD heads' b 0 ≡ next b h 0
+      more-heads b h l = go (at b h 0) refl
+        where
+          here : (x : ℕ) → b ≡ c → at b x 0 ≡ at c g 0
+          here x q = ap (λ (y : ℕ). at y x 0) q ∙ reached-same text after count c x g 0 (no-bits x g)
 
-  put-len : getD put (p + 1) 0 ≡ len
-  put-len =
-      getD-set-other with-wire (p + 3) (p + 1) next 0 (omega arith)
-      ∙ getD-set-other with-len (p + 2) (p + 1) wire 0 (omega arith)
-      ∙ getD-set-same with-start (p + 1) len 0 (simp length-set (omega arith))
+          fresh : (t : Bool) → agrees text after b h 0 count ≡ t → at b h 0 ≡ 0 → getD heads' b 0 ≡ cond t (suc count) 0
+          fresh true a z =
+              let q : c ≡ b = agrees-then b h 0 a .0 in
+              ap (λ (x : ℕ). getD heads' x 0) (sym q) ∙ new (end-head (sym (here h (sym q)) ∙ z))
+          fresh false a z = same b l (λ p q. absurd (true≢false (sym (agrees-new b h 0 (sym q) (no-bits g h)) ∙ a))) ∙ old b h l ∙ z
 
-  put-wire : getD put (p + 2) 0 ≡ wire
-  put-wire =
-      getD-set-other with-wire (p + 3) (p + 2) next 0 (omega arith) ∙ getD-set-same with-len (p + 2) wire 0 (simp length-set (omega arith))
+          go : (x : ℕ) → at b h 0 ≡ x → getD heads' b 0 ≡ next b h 0
+          go zero z = fresh (agrees text after b h 0 count) refl z ∙ sym (reached-first text after count b h z)
+          go (suc j) z =
+              same b l (λ p q. omega (arith, after-head p, here h q, z)) ∙ old b h l ∙ z ∙ sym (reached-kept text after count b h 0 j z)
 
-  put-next : getD put (p + 3) 0 ≡ next
-  put-next = getD-set-same with-wire (p + 3) next 0 (simp length-set (omega arith))
+    -- ---- the links
 
--- ---- what `define` leaves
+    module _ (link link' : ℕ → ℕ → ℕ) (old : (b h d k : ℕ) → at b h d ≡ suc k → link k (h / 2 ^ d % 2) ≡ at b h (suc d))
+        (same : (k x : ℕ) → k < count → x < 2 → (last ≡ suc k → x ≡ bit → ⊥) → link' k x ≡ link k x) (new : (k : ℕ) → last ≡ suc k → link' k bit ≡ suc count) (none : (x : ℕ) → link' count x ≡ 0) where
+      pub more-links : (b h d k : ℕ) → next b h d ≡ suc k → link' k (h / 2 ^ d % 2) ≡ next b h (suc d)
+      more-links b h d k p = go (ltb k count) refl
+        where
+          small : h / 2 ^ d % 2 < 2
+          small = omega arith
 
-pub defined : (text heads names : List ℕ) (count start len wire b : ℕ) → Table text heads names count → start + len ≤ length text → (room : count * 4 + 4 ≤ length names)
-    → b ≡ bucketOf (stretch text start len) → b < 256
-    → Defined text (set heads b (count + 1)) (put names (count * 4) start len wire (getD heads b 0) room) (count + 1) (record { start = start; len = len; wire = wire }) (entries names count)
-defined text heads names count start len wire b ok fits room bucket small =
-    let n = count * 4 in
-    let h = getD heads b 0 in
-    let m = put names n start len wire h room in
-    let r : n + 4 ≤ length m = simp length-set room in
-    let o : (i : ℕ) → i < n → getD m i 0 ≡ getD names i 0 = put-old names n start len wire h room in
-    let s : getD m n 0 ≡ start = put-start names n start len wire h room in
-    let l : getD m (n + 1) 0 ≡ len = put-len names n start len wire h room in
-    let w : getD m (n + 2) 0 ≡ wire = put-wire names n start len wire h room in
-    let x : getD m (n + 3) 0 ≡ h = put-next names n start len wire h room in
-    record {
-      table = more-table text heads names m count start len wire b ok fits r o s l w x bucket small;
-      list = more-entries text heads names m count start len wire b ok fits r o s l w x bucket small;
-    }
+          -- the record was reached and had no next: the new record comes here if it agrees
+          fresh : k < count → at b h d ≡ suc k → at b h (suc d) ≡ 0 → (t : Bool) → agrees text after b h (suc d) count ≡ t → link' k (h / 2 ^ d % 2) ≡ cond t (suc count) 0
+          fresh l o z true a =
+              let m = agrees-then b h (suc d) a in
+              let u : at c g d ≡ suc k = reached-same text after count c g h d (fewer-bits d g h (m .1)) ∙ ap (λ (y : ℕ). at y h d) (m .0) ∙ o in
+              let v : at c g (suc d) ≡ 0 = reached-same text after count c g h (suc d) (m .1) ∙ ap (λ (y : ℕ). at y h (suc d)) (m .0) ∙ z in
+              let r = end-record d k u v in
+              ap (link' k) (sym (same-bit d g h (m .1)) ∙ sym (r .1)) ∙ new k (r .0)
+          fresh l o z false a = same k (h / 2 ^ d % 2) l small (λ q y. elsewhere q y) ∙ old b h d k o ∙ z
+            where
+              elsewhere : last ≡ suc k → h / 2 ^ d % 2 ≡ bit → ⊥
+              elsewhere q y =
+                  let r = after-record k q in
+                  let s : b ≡ c = sym (reached-at text after count b h d k o .1) ∙ reached-at text after count c g (r .0) k (r .1) .1 in
+                  let t = same-place h d (r .0) k (ap (λ (y : ℕ). at y h d) (sym s) ∙ o) (r .1) in
+                  let bits : g / 2 ^ d % 2 ≡ h / 2 ^ d % 2 = ap (λ (n : ℕ). g / 2 ^ n % 2) (t .0) ∙ sym (r .3) ∙ sym y in
+                  true≢false (sym (agrees-new b h (suc d) (sym s) (more-bits d g h (sym (t .1)) bits)) ∙ a)
+
+          was : k < count → at b h d ≡ suc k → (y : ℕ) → at b h (suc d) ≡ y → link' k (h / 2 ^ d % 2) ≡ next b h (suc d)
+          was l o zero z = fresh l o z (agrees text after b h (suc d) count) refl ∙ sym (reached-next text after count b h d k o z)
+          was l o (suc j) z = same k (h / 2 ^ d % 2) l small (λ q y. taken q y) ∙ old b h d k o ∙ z ∙ sym (reached-kept text after count b h (suc d) j z)
+            where
+              taken : last ≡ suc k → h / 2 ^ d % 2 ≡ bit → ⊥
+              taken q y =
+                  let r = after-record k q in
+                  let f : link k bit ≡ 0 = ap (link k) (r .3) ∙ old c g (r .0) k (r .1) ∙ r .2 in
+                  omega (arith, ap (link k) y, old b h d k o, z, f)
+
+          go : (t : Bool) → ltb k count ≡ t → link' k (h / 2 ^ d % 2) ≡ next b h (suc d)
+          go true l = let m = ltb-true k count l in was m (reached-old text after count b h d k p m) (at b h (suc d)) refl
+          go false l =
+              let m : k ≡ count = omega (arith, ltb-false k count l, reached-at text after (suc count) b h d k p .0) in
+              ap (λ (y : ℕ). link' y (h / 2 ^ d % 2)) m ∙ none (h / 2 ^ d % 2) ∙ sym (reached-last text after count b h d (p ∙ ap suc m))

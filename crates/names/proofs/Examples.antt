@@ -1,11 +1,12 @@
 -- Worked examples of the definitions, by computation: names of the text "abba", whose wires' words are 5, 7, 9.
 -- Assumes nothing.
-use Prim.Native.Nat.{ℕ}
+use Prim.Native.Nat.{ℕ, _%_}
+use lib.ListN.{getD}
 use mathlib.Core.Path.{_≡_, refl}
 use mathlib.Core.List.{List, [], _∷_}
 use Rattle.laws.specs.Stretches.{stretch, sameBytes}
 use Rattle.names.specs.Names.{Entry, lookup}
-use Rattle.names.specs.Chains.{wrappingSum, bucketOf, entry, entries, bucketAt, latest}
+use Rattle.names.specs.Chains.{wrappingSum, mixIn, mixedBytes, mixed, bucketOf, trailOf, entry, entries, linkOf, trailIn, bucketAt, trailAt, agrees, first, firstAfter, reached}
 use Rattle.names.specs.declared.Found.the-variants.{At, Nothing}
 
 abba : List ℕ
@@ -20,22 +21,38 @@ collide = refl
 two : List Entry
 two = record { start = 2; len = 2; wire = 7 } ∷ record { start = 0; len = 2; wire = 5 } ∷ []
 
--- the area that holds these two, the second record's next being the first record
+-- the area that holds these two, the first record linking to the second by the first bit of "ba"
 area : List ℕ
-area = 0 ∷ 2 ∷ 5 ∷ 0 ∷ 2 ∷ 2 ∷ 7 ∷ 1 ∷ 0 ∷ 0 ∷ 0 ∷ 0 ∷ []
+area = 0 ∷ 2 ∷ 5 ∷ 8555783760841277442 ∷ 2 ∷ 2 ∷ 7 ∷ 4851757785282510848 ∷ 0 ∷ 0 ∷ 0 ∷ 0 ∷ []
 
 area-holds : entries area 2 ≡ two
 unfolding area two entries entry
 area-holds = refl
 
--- the head of their bucket is the second record, the second's next the first
-head-is : latest abba area (bucketOf (97 ∷ 98 ∷ [])) 2 ≡ 2
-unfolding abba area latest bucketAt entry bucketOf wrappingSum stretch
+first-bit : trailOf (98 ∷ 97 ∷ []) % 2 ≡ 0
+unfolding trailOf mixed mixedBytes mixIn
+first-bit = refl
+
+link-is : linkOf (getD area 3 0) 0 ≡ 2
+unfolding area linkOf
+link-is = refl
+
+trail-is : trailIn (getD area 7 0) ≡ trailOf (98 ∷ 97 ∷ [])
+unfolding area trailIn trailOf mixed mixedBytes mixIn
+trail-is = refl
+
+-- the search for "ba" comes to the first record, then to the second
+head-is : reached abba area 2 (bucketOf (98 ∷ 97 ∷ [])) (trailOf (98 ∷ 97 ∷ [])) 0 ≡ 1
+unfolding abba area reached first agrees bucketAt trailAt entry bucketOf wrappingSum trailOf mixed mixedBytes mixIn stretch
 head-is = refl
 
-next-is : latest abba area (bucketOf (97 ∷ 98 ∷ [])) 1 ≡ 1
-unfolding abba area latest bucketAt entry bucketOf wrappingSum stretch
+next-is : reached abba area 2 (bucketOf (98 ∷ 97 ∷ [])) (trailOf (98 ∷ 97 ∷ [])) 1 ≡ 2
+unfolding abba area reached first firstAfter agrees bucketAt trailAt entry bucketOf wrappingSum trailOf mixed mixedBytes mixIn stretch
 next-is = refl
+
+end-is : reached abba area 2 (bucketOf (98 ∷ 97 ∷ [])) (trailOf (98 ∷ 97 ∷ [])) 2 ≡ 0
+unfolding abba area reached first firstAfter agrees bucketAt trailAt entry bucketOf wrappingSum trailOf mixed mixedBytes mixIn stretch
+end-is = refl
 
 finds-older : lookup abba (97 ∷ 98 ∷ []) two ≡ At 5
 unfolding abba two lookup sameBytes stretch

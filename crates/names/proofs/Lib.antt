@@ -1,4 +1,9 @@
+pub mod Hashes
+pub mod First
+pub mod Trails
 pub mod ChainLaws
 pub mod Defining
+pub mod Links
+pub mod Defined
 pub mod Orders
 pub mod Examples

@@ -1,6 +1,6 @@
 -- The empty table is in order; entries with distinct names may be searched from either end.
 -- Assumes nothing.
-use Prim.Native.Nat.{ℕ}
+use Prim.Native.Nat.{ℕ, zero, suc}
 use mathlib.Core.Path.{_≡_, refl, sym, ap, _∙_}
 use mathlib.Core.Bool.{Bool, true, false, cond}
 use mathlib.Core.List.{List, [], _∷_, _++_, reverse, reverse-cons}
@@ -9,19 +9,25 @@ use lib.ListN.{replicate, length-replicate, getD-replicate}
 use Rattle.laws.specs.Stretches.{sameBytes}
 use Rattle.laws.proofs.Stretches.{same-eq}
 use Rattle.names.specs.Names.{Entry, nameOf, lookup}
-use Rattle.names.specs.Chains.{entries, latest, Table}
+use Rattle.names.specs.Chains.{entries, agrees, first, firstAfter, reached, Table}
+use Rattle.names.proofs.First.{after-last}
 use Rattle.names.specs.declared.Found.{Found}
 use Rattle.names.specs.declared.Found.the-variants.{At, Nothing}
 
+none-reached : (text names : List ℕ) (b h d : ℕ) → reached text names 0 b h d ≡ 0
+unfolding reached first
+none-reached text names b h zero = refl
+none-reached text names b h (suc d) = ap (firstAfter (agrees text names b h (suc d)) 0) (none-reached text names b h d) ∙ after-last (agrees text names b h (suc d)) 0
+
 pub empty-table : (text names : List ℕ) → Table text (replicate 256 0) names 0
-unfolding latest
 empty-table text names =
     record {
       heads-sized = length-replicate {A = ℕ} 256 0;
       room = omega arith;
       inside = λ k h. absurd (omega arith);
-      next = λ k h. absurd (omega arith);
-      head = λ b h. getD-replicate 256 b 0 0 h;
+      trail = λ k h. absurd (omega arith);
+      head = λ b h l. getD-replicate 256 b 0 0 l ∙ sym (none-reached text names b h 0);
+      link = λ b h d k e. absurd (omega (arith, none-reached text names b h d));
     }
 
 pub no-entries : (names : List ℕ) → entries names 0 ≡ []

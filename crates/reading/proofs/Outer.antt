@@ -24,7 +24,7 @@ use Rattle.circuit.specs.Circuits.{Circuit, filled, readAnswer, nodeWords, outp
 use Rattle.circuit.proofs.Codes.{node-wide, output-wide, length-nodes}
 use Rattle.circuit.proofs.Checks.{no-fault, not-refused}
 use Rattle.text.specs.Joining.{joinedText, Joins}
-use Rattle.names.specs.Chains.{Table, latest, entries}
+use Rattle.names.specs.Chains.{Table, entries}
 use Rattle.names.proofs.Orders.{empty-table}
 use Rattle.reading.specs.declared.records.Counts.{Counts}
 use Rattle.reading.specs.declared.outputs.Ended.{Ended}

@@ -22,6 +22,10 @@ room-of width words n h k =
     let q : suc n ≤ words / width = omega arith in
     omega (arith, mul-le-mul-right width q, div-mul-le-self words width, suc-mul n width)
 
+pub below-cap : (width words n : ℕ) → n < capacity width words → n < 1048576
+unfolding capacity
+below-cap width words n k = omega arith
+
 module _ (a b : List ℕ) (n : ℕ) (x : BoolNode) (put : b ≡ stored a (n * 9) (encodeNode x)) (same : length b ≡ length a) (room : n * 9 + 9 ≤ length a) (kept : NodesKept a n) where
   pub more-nodes : nodesOf b (n + 1) ≡ nodesOf a n ++ (x ∷ [])
   more-nodes = next-nodes a b n x put same (kept .clean)

@@ -44,7 +44,7 @@ module _ (ns : List BoolNode) (assignment : List ℕ) where
     pub right : (k : ℕ) → k < length ns → waits (graphOf ns) taken k ≡ false → getD s k 0 ≡ getD (storageValues ns assignment) k 0
 
 module _ (ns : List BoolNode) (os : List BoolWire) (assignment : List ℕ) (sound : Sounds ns os) where
-  step-right : (taken s : List ℕ) (x : ℕ) → ready (graphOf ns) taken x ≡ true → Right ns assignment taken s → Right ns assignment (taken ++ x ∷ []) (step ns s x)
+  pub step-right : (taken s : List ℕ) (x : ℕ) → ready (graphOf ns) taken x ≡ true → Right ns assignment taken s → Right ns assignment (taken ++ x ∷ []) (step ns s x)
   unfolding step storageValues answerOf waits
   step-right taken s x r h = record { room = omega (arith, h .room, length-set s x (answerOf s (getD ns x noNode))); right = at }
     where
@@ -87,7 +87,7 @@ module _ (ns : List BoolNode) (os : List BoolWire) (assignment : List ℕ) (soun
       let g = and-true (ready (graphOf ns) taken x) (fit (graphOf ns) (taken ++ x ∷ []) order) f in
       rw append-assoc at (steps-right order (taken ++ x ∷ []) (step ns s x) (g .1) (step-right taken s x (g .0) h))
 
-  start-right : (old : List ℕ) → length ns ≤ length old → Right ns assignment [] (putIn assignment 0 0 old ns)
+  pub start-right : (old : List ℕ) → length ns ≤ length old → Right ns assignment [] (putIn assignment 0 0 old ns)
   unfolding storageValues waits
   start-right old l =
       record {

@@ -139,6 +139,7 @@ module _ (nodes outputs order assignment : List ℕ) (store answers : ℕ) where
   pub record Runs : Type 0 where
     pub checks : topologicalFault nodes outputs ≡ Sound
     pub inputs : length assignment ≡ inputCount (nodesIn nodes)
+    pub values : some (ltb 2) assignment ≡ false
     pub fits : fitList (graphOf (nodesIn nodes)) order ≡ true
     pub room : Room nodes outputs store answers
 
@@ -148,9 +149,11 @@ module _ (nodes outputs order assignment : List ℕ) (store answers : ℕ) where
       let p = no-fault (topologicalFault nodes outputs) _ h in
       let q = no-fault (assignmentFault 2 nodes assignment) _ (p .1) in
       let r = no-fault (orderFault nodes order) _ (q .1) in
+      let a = assigned 2 (nodesIn nodes) assignment (not-refused _ WrongValues (q .0)) in
       record {
         checks = p .0;
-        inputs = assigned 2 (nodesIn nodes) assignment (not-refused _ WrongValues (q .0)) .0;
+        inputs = a .0;
+        values = a .1;
         fits = not-false (fitList (graphOf (nodesIn nodes)) order) (not-refused _ UnfitOrder (r .0));
         room = room-of nodes outputs store answers (r .1);
       }

@@ -3,7 +3,7 @@
 use mathlib.Core.Path.{_≡_, sym, ap, ap₂, _∙_}
 use mathlib.Core.List.{List, [], _∷_, _++_, map}
 use mathlib.Core.Bool.{Bool, true, false, cond}
-use Prim.Native.Nat.{ℕ, zero, suc, _+_, _*_, _<_}
+use Prim.Native.Nat.{ℕ, zero, suc, _+_, _*_, _<_, _≤_}
 use native.Mathlib.Numerals.{add-one}
 use native.Mathlib.Omega.{arith}
 use lib.Dec.{ltb}
@@ -20,11 +20,10 @@ use Rattle.circuit.specs.Records.{nodeAt, isCellNode, wiresOf}
 use Rattle.circuit.specs.Check.{recordBroken, notBelow, someNotBelow}
 use Rattle.cells.specs.Cells.{entry, indexFrom}
 use Rattle.runs.specs.Values.{signalValue, entryOf, valuesFrom, outputsFrom}
-use Rattle.runs.specs.Fit.{Accepted}
 use Rattle.runs.specs.Work.{valueOf}
 use Rattle.runs.proofs.Storage.{wires-below}
 use Rattle.runs.proofs.Stepping.{wires-one, wires-two}
-use Rattle.runs.proofs.Turns.{from, accepted-at}
+use Rattle.runs.proofs.Turns.{from}
 
 -- ---- a cell
 
@@ -51,28 +50,31 @@ entry-below : (s t : List ℕ) (k : ℕ) → ((i : ℕ) → i < k → getD s i 0
 unfolding entryOf
 entry-below s t k e n h = ap (λ (l : List ℕ). entry (n .table) (indexFrom 0 l)) (wires-below s t k e (wiresOf n) h)
 
-pub value-turn : (nodes : List ℕ) (count : ℕ) → Accepted nodes count → (assignment : List ℕ) (p : ℕ) (s : List ℕ) (k r : ℕ) (after : List ℕ) → k < count → k < length s
+pub value-turn : (nodes : List ℕ) (count : ℕ) (assignment : List ℕ) (p : ℕ) (s : List ℕ) (k r : ℕ) (after : List ℕ) → k < count → k < length s → someNotBelow k (wiresOf (nodeAt nodes k)) ≡ false
     → after ≡ set s k (valueOf nodes k assignment p s) → r ≡ cond (isCellNode (nodeAt nodes k)) p (p + 1)
     → valuesFrom entryOf assignment p (take k s) (from nodes count k) ≡ valuesFrom entryOf assignment r (take (k + 1) after) (from nodes count (k + 1))
 unfolding valuesFrom
-value-turn nodes count ok assignment p s k r after h l e f =
+value-turn nodes count assignment p s k r after h l w e f =
     ap (valuesFrom entryOf assignment p (take k s)) (up-more (nodeAt nodes) k count h)
     ∙ go (isCellNode (nodeAt nodes k))
     ∙ ap₂ (λ (q : ℕ) (vs : List ℕ). valuesFrom entryOf assignment q vs (from nodes count (k + 1))) (sym f)
     (sym (ap (take (k + 1)) e ∙ ap (λ (j : ℕ). take j (set s k (valueOf nodes k assignment p s))) (add-one k) ∙ take-suc-set s k (valueOf nodes k assignment p s) l))
   where
     same : entryOf (take k s) (nodeAt nodes k) ≡ entryOf s (nodeAt nodes k)
-    same = entry-below (take k s) s k (λ i g. getD-take k s i 0 g) (nodeAt nodes k) (accepted-at nodes count ok k h .earlier)
+    same = entry-below (take k s) s k (λ i g. getD-take k s i 0 g) (nodeAt nodes k) w
 
     go : (b : Bool) → cond b (valuesFrom entryOf assignment p (take k s ++ entryOf (take k s) (nodeAt nodes k) ∷ []) (from nodes count (k + 1))) (valuesFrom entryOf assignment (suc p) (take k s ++ getD assignment p 0 ∷ []) (from nodes count (k + 1)))
         ≡ valuesFrom entryOf assignment (cond b p (p + 1)) (take k s ++ cond b (entryOf s (nodeAt nodes k)) (getD assignment p 0) ∷ []) (from nodes count (k + 1))
     go true = ap (λ (v : ℕ). valuesFrom entryOf assignment p (take k s ++ v ∷ []) (from nodes count (k + 1))) same
     go false = ap (λ (q : ℕ). valuesFrom entryOf assignment q (take k s ++ getD assignment p 0 ∷ []) (from nodes count (k + 1))) (sym (add-one p))
 
+pub assigned-below : (top : ℕ) (assignment : List ℕ) → some (ltb top) assignment ≡ false → (i : ℕ) → getD assignment i 0 ≤ top
+assigned-below top [] e i = omega arith
+assigned-below top (v ∷ vs) e zero = ltb-false top v (neither (ltb top v) (some (ltb top) vs) e .0)
+assigned-below top (v ∷ vs) e (suc i) = assigned-below top vs (neither (ltb top v) (some (ltb top) vs) e .1) i
+
 pub assigned-bits : (assignment : List ℕ) → some (ltb 1) assignment ≡ false → (i : ℕ) → getD assignment i 0 < 2
-assigned-bits [] e i = omega arith
-assigned-bits (v ∷ vs) e zero = omega (arith, ltb-false 1 v (neither (ltb 1 v) (some (ltb 1) vs) e .0))
-assigned-bits (v ∷ vs) e (suc i) = assigned-bits vs (neither (ltb 1 v) (some (ltb 1) vs) e .1) i
+assigned-bits assignment e i = omega (arith, assigned-below 1 assignment e i)
 
 pub values-outputs : (values vs : List ℕ) (count : ℕ) (os : List BoolWire) → take count values ≡ vs → someNotBelow count os ≡ false → outputsFrom values os ≡ outputsFrom vs os
 unfolding outputsFrom

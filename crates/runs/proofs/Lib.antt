@@ -5,6 +5,10 @@ pub mod Marking
 pub mod Blocks
 pub mod Turns
 pub mod Calls
+pub mod Passing
+pub mod Rules
 pub mod Evaluating
+pub mod Standing
+pub mod Running
 pub mod Numbering
 pub mod Examples

@@ -1,27 +1,25 @@
--- The laws of a step and of the loop over an order list.
+-- The laws of a cell's wires and of its answer in a step.
 -- Assumes nothing.
 use mathlib.Core.Path.{_≡_, refl, sym, ap, ap₂, _∙_}
 use mathlib.Core.Logic.{_⊎_, inl, inr}
 use mathlib.Core.List.{List, [], _∷_, map}
 use mathlib.Core.Bool.{Bool, true, false, true≢false}
-use Prim.Native.Nat.{ℕ, zero, suc, _+_, _^_, _<_, _≤_}
-use native.Mathlib.Numerals.{add-one}
+use Prim.Native.Nat.{ℕ, _^_, _<_}
 use native.Mathlib.Omega.{arith}
-use lib.Dec.{eqb, leb}
-use borrow.Author.Tests.{eqb-true, eqb-false, leb-false}
-use lib.ListN.{length, getD, set, take, drop, drop-of-length-le}
-use lib.Seq.{drop-cons}
-use Rattle.laws.proofs.Tests.{neither}
+use lib.Dec.{eqb, leb, ltb}
+use borrow.Author.Tests.{eqb-true, eqb-false, leb-false, lt-ltb, le-ltb}
+use lib.ListN.{take}
+use Rattle.laws.specs.Lists.{some}
+use Rattle.laws.proofs.Tests.{neither, cond-true, cond-false}
 use Rattle.circuit.specs.declared.records.BoolWire.{BoolWire}
 use Rattle.circuit.specs.declared.records.BoolNode.{BoolNode}
-use Rattle.circuit.specs.Records.{nodeAt, nodesOf, isCellNode, slots, wiresOf}
+use Rattle.circuit.specs.Records.{isCellNode, slots, wiresOf}
 use Rattle.circuit.specs.Check.{cellBroken, recordBroken, notBelow, someNotBelow}
-use Rattle.circuit.proofs.Codes.{node-of}
 use Rattle.circuit.proofs.Checks.{cell-wires, wrong-count}
 use Rattle.cells.specs.Cells.{cellRule}
 use Rattle.runs.specs.Values.{signalValue, answerOf}
-use Rattle.runs.specs.Runs.{settled, step, steps}
 use Rattle.runs.specs.Work.{Workable}
+use Rattle.runs.specs.Steps.{marked, answerOrWait}
 
 -- ---- a cell's wires
 
@@ -44,7 +42,7 @@ pub wires-two : (n : BoolNode) → isCellNode n ≡ true → recordBroken n ≡ 
 wires-two n c b e = cell-wires n (kind-cell n c) ∙ ap (λ (k : ℕ). take k (slots n)) (count-two n c b e)
 
 -- the test of its table, where its count is known
-table-test : (n : BoolNode) → n .kind ≡ 2 → (k : ℕ) → n .count ≡ k → (k ≡ 1) ⊎ (k ≡ 2) → leb (2 ^ 2 ^ k) (n .table) ≡ recordBroken n
+pub table-test : (n : BoolNode) → n .kind ≡ 2 → (k : ℕ) → n .count ≡ k → (k ≡ 1) ⊎ (k ≡ 2) → leb (2 ^ 2 ^ k) (n .table) ≡ recordBroken n
 unfolding recordBroken cellBroken
 table-test n kind k e (inl q) = rw (kind, e, q)
 table-test n kind k e (inr q) = rw (kind, e, q)
@@ -80,52 +78,42 @@ second-wired n size w e =
 
 -- ---- the answer
 
-pub settled-two : (v : ℕ) → (v ≡ 0 → ⊥) → (v ≡ 1 → ⊥) → 2 ≡ settled v
-unfolding settled
-settled-two zero p q = absurd (p refl)
-settled-two (suc zero) p q = absurd (q refl)
-settled-two (suc (suc v)) p q = refl
+pub wires-first : (n : BoolNode) → isCellNode n ≡ true → recordBroken n ≡ false → (ws : List BoolWire) × (wiresOf n ≡ n .first ∷ ws)
+wires-first n c b = go (eqb (n .count) 1) refl
+  where
+    go : (t : Bool) → eqb (n .count) 1 ≡ t → (ws : List BoolWire) × (wiresOf n ≡ n .first ∷ ws)
+    go true q = ([], wires-one n c (eqb-true (n .count) 1 q))
+    go false q = (n .second ∷ [], wires-two n c b (eqb-false (n .count) 1 q))
 
-rule-one : (t v : ℕ) → cellRule t (settled v ∷ []) ≡ cellRule t (v ∷ [])
-unfolding settled
-rule-one t zero = refl
-rule-one t (suc zero) = refl
-rule-one t (suc (suc v)) = refl
+module _ (n : BoolNode) (s : List ℕ) (c : isCellNode n ≡ true) (u : recordBroken n ≡ false) (v : ℕ) (p : v ≡ signalValue s (n .first)) where
+  pub first-waits : 2 < v → 3 ≡ answerOrWait s n
+  unfolding answerOrWait
+  first-waits h =
+      let w = wires-first n c u in
+      let m : some (marked s) (n .first ∷ w .0) ≡ true = rw (lt-ltb 2 (signalValue s (n .first)) (omega (arith, p, h))) in
+      sym (cond-true (some (marked s) (wiresOf n)) 3 (answerOf s n) (ap (some (marked s)) (w .1) ∙ m))
 
-rule-two : (t a b : ℕ) → cellRule t (settled a ∷ settled b ∷ []) ≡ cellRule t (a ∷ b ∷ [])
-unfolding settled
-rule-two t zero zero = refl
-rule-two t zero (suc zero) = refl
-rule-two t zero (suc (suc b)) = refl
-rule-two t (suc zero) zero = refl
-rule-two t (suc zero) (suc zero) = refl
-rule-two t (suc zero) (suc (suc b)) = refl
-rule-two t (suc (suc a)) zero = refl
-rule-two t (suc (suc a)) (suc zero) = refl
-rule-two t (suc (suc a)) (suc (suc b)) = refl
+  module _ (h : v < 3) where
+    first-there : ltb 2 (signalValue s (n .first)) ≡ false
+    first-there = le-ltb 2 (signalValue s (n .first)) (omega (arith, p, h))
 
-pub answer-one : (n : BoolNode) (s : List ℕ) (v a r : ℕ) → isCellNode n ≡ true → n .count ≡ 1 → v ≡ signalValue s (n .first) → a ≡ settled v → r ≡ cellRule (n .table) (a ∷ []) → r ≡ answerOf s n
-unfolding answerOf
-answer-one n s v a r c e p q g =
-    g ∙ ap (λ (x : ℕ). cellRule (n .table) (x ∷ [])) (q ∙ ap settled p) ∙ rule-one (n .table) (signalValue s (n .first))
-    ∙ ap (λ (ws : List BoolWire). cellRule (n .table) (map (signalValue s) ws)) (sym (wires-one n c e))
+    pub answer-one : n .count ≡ 1 → (r : ℕ) → r ≡ cellRule (n .table) (v ∷ []) → r ≡ answerOrWait s n
+    unfolding answerOrWait answerOf
+    answer-one e r g =
+        let m : some (marked s) (n .first ∷ []) ≡ false = rw first-there in
+        g ∙ ap (λ (x : ℕ). cellRule (n .table) (x ∷ [])) p ∙ ap (λ (ws : List BoolWire). cellRule (n .table) (map (signalValue s) ws)) (sym (wires-one n c e))
+        ∙ sym (cond-false (some (marked s) (wiresOf n)) 3 (answerOf s n) (ap (some (marked s)) (wires-one n c e) ∙ m))
 
-pub answer-two : (n : BoolNode) (s : List ℕ) (v w a b r : ℕ) → isCellNode n ≡ true → recordBroken n ≡ false → (n .count ≡ 1 → ⊥) → v ≡ signalValue s (n .first) → w ≡ signalValue s (n .second)
-    → a ≡ settled v → b ≡ settled w → r ≡ cellRule (n .table) (a ∷ b ∷ []) → r ≡ answerOf s n
-unfolding answerOf
-answer-two n s v w a b r c u e p q x y g =
-    g ∙ ap₂ (λ (i j : ℕ). cellRule (n .table) (i ∷ j ∷ [])) (x ∙ ap settled p) (y ∙ ap settled q) ∙ rule-two (n .table) (signalValue s (n .first)) (signalValue s (n .second))
-    ∙ ap (λ (ws : List BoolWire). cellRule (n .table) (map (signalValue s) ws)) (sym (wires-two n c u e))
+    module _ (e : n .count ≡ 1 → ⊥) (w : ℕ) (q : w ≡ signalValue s (n .second)) where
+      pub second-waits : 2 < w → 3 ≡ answerOrWait s n
+      unfolding answerOrWait
+      second-waits l =
+          let m : some (marked s) (n .first ∷ n .second ∷ []) ≡ true = rw (first-there, lt-ltb 2 (signalValue s (n .second)) (omega (arith, q, l))) in
+          sym (cond-true (some (marked s) (wiresOf n)) 3 (answerOf s n) (ap (some (marked s)) (wires-two n c u e) ∙ m))
 
--- ---- the loop
-
-pub steps-turn : (a : List ℕ) (m : ℕ) (order s : List ℕ) (i : ℕ) → i < length order → getD order i 0 < m
-    → steps (nodesOf a m) s (drop i order) ≡ steps (nodesOf a m) (set s (getD order i 0) (answerOf s (nodeAt a (getD order i 0)))) (drop (i + 1) order)
-unfolding steps step
-steps-turn a m order s i h g =
-    ap (steps (nodesOf a m) s) (drop-cons order i 0 h)
-    ∙ ap₂ (λ (n : BoolNode) (k : ℕ). steps (nodesOf a m) (set s (getD order i 0) (answerOf s n)) (drop k order)) (node-of a m (getD order i 0) g) (sym (add-one i))
-
-pub steps-end : (ns : List BoolNode) (order s : List ℕ) (i : ℕ) → length order ≤ i → steps ns s (drop i order) ≡ s
-unfolding steps
-steps-end ns order s i h = ap (steps ns s) (drop-of-length-le order h)
+      pub answer-two : w < 3 → (r : ℕ) → r ≡ cellRule (n .table) (v ∷ w ∷ []) → r ≡ answerOrWait s n
+      unfolding answerOrWait answerOf
+      answer-two l r g =
+          let m : some (marked s) (n .first ∷ n .second ∷ []) ≡ false = rw (first-there, le-ltb 2 (signalValue s (n .second)) (omega (arith, q, l))) in
+          g ∙ ap₂ (λ (i j : ℕ). cellRule (n .table) (i ∷ j ∷ [])) p q ∙ ap (λ (ws : List BoolWire). cellRule (n .table) (map (signalValue s) ws)) (sym (wires-two n c u e))
+          ∙ sym (cond-false (some (marked s) (wiresOf n)) 3 (answerOf s n) (ap (some (marked s)) (wires-two n c u e) ∙ m))

@@ -204,7 +204,7 @@ module _ (a : List ℕ) where
   length-put (n ∷ ns) p k s =
       cond-both (λ (l : List ℕ). length l ≡ length s) (isCellNode n) _ _ (length-put ns p (suc k) s) (length-put ns (suc p) (suc k) (set s k (getD a p 0)) ∙ length-set s k (getD a p 0))
 
-  put-stay : (ns : List BoolNode) (p k : ℕ) (s : List ℕ) (i : ℕ) → i < k → getD (putIn a p k s ns) i 0 ≡ getD s i 0
+  pub put-stay : (ns : List BoolNode) (p k : ℕ) (s : List ℕ) (i : ℕ) → i < k → getD (putIn a p k s ns) i 0 ≡ getD s i 0
   unfolding putIn
   put-stay [] p k s i h = refl
   put-stay (n ∷ ns) p k s i h =

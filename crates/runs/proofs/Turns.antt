@@ -1,33 +1,32 @@
--- What accepted nodes have, the entries of a fit list, and a turn of each loop over nodes, entries and outputs.
+-- What accepted nodes have, a turn of each loop over nodes, entries and outputs, and what the words of a record say.
 -- Assumes nothing.
 use mathlib.Core.Path.{_≡_, refl, sym, ap, ap₂, _∙_, subst}
 use mathlib.Core.List.{List, [], _∷_, _++_, append-assoc}
 use mathlib.Core.Bool.{Bool, true, false, cond, _&&_}
-use Prim.Native.Nat.{ℕ, suc, _+_, _-_, _*_, _<_, _≤_}
+use Prim.Native.Nat.{ℕ, zero, suc, _+_, _-_, _*_, _<_, _≤_}
 use native.Mathlib.Nat.{add-zero, zero-add}
 use native.Mathlib.Numerals.{add-one}
 use native.Mathlib.Omega.{arith}
-use lib.Dec.{eqb, ltb}
-use borrow.Author.Tests.{eq-eqb, ne-eqb, ltb-true, ltb-false}
+use borrow.Author.Tests.{eq-eqb, ne-eqb, le-leb, lt-leb, leb-false}
 use lib.ListN.{length, getD, set, take, drop, drop-of-length-le, length-append, length-map, List·getD-map}
 use lib.Seq.{drop-cons}
 use Rattle.laws.specs.Areas.{upFrom}
 use Rattle.laws.specs.Lists.{keep, numbers}
 use Rattle.laws.proofs.Areas.{up-start, up-more, up-none}
 use Rattle.laws.proofs.Storing.{up-at}
-use Rattle.laws.proofs.Tests.{and-true}
-use Rattle.laws.proofs.Filling.{parts-at, take-next}
+use Rattle.laws.proofs.Filling.{take-next}
+use Rattle.circuit.specs.declared.records.BoolWire.the-variants.{Node}
 use Rattle.circuit.specs.declared.records.BoolNode.{BoolNode}
-use Rattle.circuit.specs.Records.{nodeAt, nodesOf, outputWire, outputWires, isCellNode, noNode, noWire, wiresOf}
-use Rattle.circuit.specs.Graph.{Vertex, graphOf, isCell, cellsOf, fit, fitList}
-use Rattle.circuit.proofs.Graph.{fit-at, ready-waits, waits-cell, cell-below}
-use Rattle.circuit.proofs.Codes.{node-of, length-nodes, length-output-wires}
+use Rattle.circuit.specs.Records.{wireOf, nodeAt, NodeIs, nodesOf, outputWire, outputWires, isCellNode, noNode, noWire, wiresOf}
+use Rattle.circuit.specs.Check.{notBelow}
+use Rattle.circuit.specs.Graph.{Vertex, graphOf, isCell, cellsOf}
+use Rattle.circuit.proofs.Codes.{wireOf-node, node-of, length-nodes, length-output-wires}
 use Rattle.circuit.proofs.Checks.{Passed, nodes-passed, all-below-more}
 use Rattle.circuit.proofs.Circuits.{cell-at, length-graph}
 use Rattle.runs.specs.Values.{signalValue, outputsFrom}
 use Rattle.runs.specs.Runs.{putIn, inputCount}
 use Rattle.runs.specs.Fit.{readyIn, fitIn, Accepted}
-use Rattle.runs.specs.Work.{Workable, WorkableAt, AllWorkable}
+use Rattle.runs.specs.Work.{WorkableAt}
 
 -- ---- accepted nodes
 
@@ -45,28 +44,6 @@ module _ (nodes : List ℕ) (count : ℕ) (ok : Accepted nodes count) where
         stored = omega arith;
         workable = record { cell = c; unbroken = p .rules; wired = all-below-more count size l (wiresOf (nodeAt nodes x)) (p .inside) };
       }
-
-  -- its wires are of earlier nodes
-  pub own-workable : (k : ℕ) → k < count → isCellNode (nodeAt nodes k) ≡ true → Workable (nodeAt nodes k) k
-  own-workable k h c = let p = accepted-at k h in record { cell = c; unbroken = p .rules; wired = p .earlier }
-
-  -- the entries of a fit list
-  entry-cell : (order : List ℕ) → fitList (graphOf (nodesOf nodes count)) order ≡ true → (i : ℕ) → i < length order → isCell (graphOf (nodesOf nodes count)) (getD order i 0) ≡ true
-  unfolding fitList
-  entry-cell order f i h =
-      let c = graphOf (nodesOf nodes count) in
-      let g = and-true (fit c [] order) (eqb (length order) (length (cellsOf c))) f in
-      let r = fit-at c [] (take i order) (drop (suc i) order) (getD order i 0) (ap (fit c []) (sym (parts-at order i h)) ∙ g .0) in
-      waits-cell c (take i order) (getD order i 0) (ready-waits c (take i order) (getD order i 0) r)
-
-  pub entry-below : (order : List ℕ) → fitList (graphOf (nodesOf nodes count)) order ≡ true → (i : ℕ) → i < length order → getD order i 0 < count
-  entry-below order f i h = omega (arith, cell-below (graphOf (nodesOf nodes count)) (getD order i 0) (entry-cell order f i h), length-graph (nodesOf nodes count), length-nodes nodes count)
-
-  pub all-workable : (order : List ℕ) (size : ℕ) → fitList (graphOf (nodesOf nodes count)) order ≡ true → count ≤ size → AllWorkable nodes size order
-  all-workable order size f l i h =
-      let b = entry-below order f i h in
-      accepted-workable size (getD order i 0) l b
-      (ap isCellNode (sym (node-of nodes count (getD order i 0) b)) ∙ sym (cell-at (nodesOf nodes count) (getD order i 0)) ∙ entry-cell order f i h)
 
 -- ---- one pass over a list
 
@@ -122,34 +99,6 @@ module _ (nodes : List ℕ) (count : ℕ) where
     pub same-turn : (p r size : ℕ) → p + inputCount (from k) ≡ size → r ≡ cond (isCellNode (nodeAt nodes k)) p (p + 1) → r + inputCount (from (k + 1)) ≡ size
     same-turn p r size l e = omega (arith, count-turn, e ∙ cond-number (isCellNode (nodeAt nodes k)) p)
 
-    pub room-turn : (p r size : ℕ) → p + inputCount (from k) ≤ size → r ≡ cond (isCellNode (nodeAt nodes k)) p (p + 1) → r + inputCount (from (k + 1)) ≤ size
-    room-turn p r size l e = omega (arith, count-turn, e ∙ cond-number (isCellNode (nodeAt nodes k)) p)
-
-    pub room-now : (p size : ℕ) → p + inputCount (from k) ≤ size → isCellNode (nodeAt nodes k) ≡ false → p < size
-    room-now p size l e =
-        let one : _≡_ {A = ℕ} (cond (isCellNode (nodeAt nodes k)) 0 1) 1 = ap (λ (b : Bool). cond b 0 1) e in
-        omega (arith, count-turn, one)
-
-  -- an input is ahead: then a node is
-  pub input-ahead : (k : ℕ) → 0 < inputCount (from k) → k < count
-  unfolding inputCount
-  input-ahead k h = go (ltb k count) refl
-    where
-      go : (t : Bool) → ltb k count ≡ t → k < count
-      go true e = ltb-true k count e
-      go false e = let z : inputCount (from k) ≡ inputCount [] = ap inputCount (from-end k (ltb-false k count e)) in absurd (omega (arith, z))
-
--- no input is ahead: then none is put in
-pub put-none : (assignment : List ℕ) (p k : ℕ) (s : List ℕ) (ns : List BoolNode) → inputCount ns ≡ 0 → putIn assignment p k s ns ≡ s
-unfolding putIn inputCount
-put-none assignment p k s [] e = refl
-put-none assignment p k s (n ∷ ns) e = go (isCellNode n) refl (put-none assignment p (suc k) s ns)
-  where
-    go : (b : Bool) → isCellNode n ≡ b → (inputCount ns ≡ 0 → putIn assignment p (suc k) s ns ≡ s)
-        → cond (isCellNode n) (putIn assignment p (suc k) s ns) (putIn assignment (suc p) (suc k) (set s k (getD assignment p 0)) ns) ≡ s
-    go true q below = rw q (below (rw q at e))
-    go false q below = let z : suc (inputCount ns) ≡ 0 = rw q at e in absurd (omega arith)
-
 pub cond-small : (b : Bool) → cond b 0 1 ≤ 1
 cond-small true = omega arith
 cond-small false = omega arith
@@ -197,10 +146,40 @@ module _ (values outputs : List ℕ) (count : ℕ) where
 
 -- ---- the kind's word
 
+pub kind-word : (nodes : List ℕ) (k : ℕ) → nodeAt nodes k .kind ≡ getD nodes (k * 9) 0
+kind-word nodes k = ap (λ (j : ℕ). getD nodes j 0) (add-zero (k * 9))
+
+pub node-at-is : (nodes : List ℕ) (k : ℕ) → NodeIs nodes (k * 9) (nodeAt nodes k)
+node-at-is nodes k = record { kind-is = kind-word nodes k; count-is = refl; table-is = refl; name-is = refl; first-is = refl; second-is = refl }
+
 pub word-cell : (nodes : List ℕ) (k : ℕ) → getD nodes (k * 9) 0 ≡ 2 → isCellNode (nodeAt nodes k) ≡ true
 unfolding isCellNode
-word-cell nodes k e = eq-eqb (getD nodes (k * 9 + 0) 0) 2 (ap (λ (j : ℕ). getD nodes j 0) (add-zero (k * 9)) ∙ e)
+word-cell nodes k e = eq-eqb (getD nodes (k * 9 + 0) 0) 2 (kind-word nodes k ∙ e)
 
 pub word-other : (nodes : List ℕ) (k : ℕ) → (getD nodes (k * 9) 0 ≡ 2 → ⊥) → isCellNode (nodeAt nodes k) ≡ false
 unfolding isCellNode
-word-other nodes k e = ne-eqb (getD nodes (k * 9 + 0) 0) 2 (λ q. e (ap (λ (j : ℕ). getD nodes j 0) (sym (add-zero (k * 9))) ∙ q))
+word-other nodes k e = ne-eqb (getD nodes (k * 9 + 0) 0) 2 (λ q. e (sym (kind-word nodes k) ∙ q))
+
+-- ---- a wire's word
+
+pub word-value : (s : List ℕ) (w : ℕ) → w < 2 → w ≡ signalValue s (wireOf w)
+word-value s zero h = refl
+word-value s (suc zero) h = refl
+word-value s (suc (suc w)) h = absurd (omega arith)
+
+node-word : (w : ℕ) → 2 ≤ w → wireOf w ≡ Node (record { 0 = w - 2 })
+node-word w h = wireOf-node w (λ e. omega (arith, e, h)) (λ e. omega (arith, e, h))
+
+pub word-node : (s : List ℕ) (w : ℕ) → 2 ≤ w → getD s (w - 2) 0 ≡ signalValue s (wireOf w)
+word-node s w h = sym (ap (signalValue s) (node-word w h))
+
+pub word-below : (m w : ℕ) → 2 ≤ w → notBelow m (wireOf w) ≡ false → w - 2 < m
+word-below m w h e = leb-false m (w - 2) (ap (notBelow m) (sym (node-word w h)) ∙ e)
+
+pub word-ahead : (k w : ℕ) → k + 2 ≤ w → notBelow k (wireOf w) ≡ true
+word-ahead k w h = ap (notBelow k) (node-word w (omega (arith, h))) ∙ le-leb k (w - 2) (omega (arith, h))
+
+pub word-behind : (k w : ℕ) → w < k + 2 → notBelow k (wireOf w) ≡ false
+word-behind k zero h = refl
+word-behind k (suc zero) h = refl
+word-behind k (suc (suc w)) h = lt-leb k w (omega (arith, h))

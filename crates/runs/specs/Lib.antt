@@ -2,4 +2,5 @@ pub mod Values
 pub mod Runs
 pub mod Fit
 pub mod Work
+pub mod Steps
 pub mod Calls

@@ -46,9 +46,3 @@ wrongAssignment top ns assignment = not (eqb (length assignment) (inputCount ns)
 unfoldable pub numbered : ℕ → ℕ → List ℕ
 numbered zero a = []
 numbered (suc n) a = entry a n ∷ numbered n a
-
--- a value of the store as the cell rule sees it: whatever is not known is unknown
-unfoldable pub settled : ℕ → ℕ
-settled zero = 0
-settled (suc zero) = 1
-settled (suc (suc v)) = 2

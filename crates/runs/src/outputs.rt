@@ -7,10 +7,12 @@ ghost use lib.ListN.{length, drop, replicate};
 ghost use Rattle.circuit.specs.Records.{outputWires};
 ghost use Rattle.circuit.specs.Check.{someNotBelow};
 ghost use Rattle.runs.specs.Values.{outputsFrom};
+ghost use Rattle.runs.specs.Work.{Tells, Prepared};
 ghost use Rattle.runs.specs.Calls.{roomFault};
+use crate::inputs::some_above;
 use crate::values::signal_value;
 use circuit::areas::clear_bytes;
-use circuit::records::wire_of;
+use circuit::check::some_output_outside;
 use circuit::refusals::Checked;
 use circuit::refusals::Refusal;
 
@@ -27,14 +29,46 @@ pub fn room_fault(nodes: &[usize], outputs: &[usize], store: usize, answers: usi
     Checked::Sound
 }
 
+// What a call needs beside its nodes: whole areas, values up to the top, room for both, the outputs' wires inside.
+pub fn prepared(
+    nodes: &[usize],
+    outputs: &[usize],
+    assignment: &[u8],
+    top: u8,
+    store: usize,
+    answers: usize,
+) -> bool
+    ensures { λ r. ⌜ Tells r (Prepared top (now (nodes .entry)) (now (outputs .entry)) (now (assignment .entry)) store answers) ⌝ }
+{
+    if nodes.len() % 9 == 0 {
+        if outputs.len() % 5 == 0 {
+            let count = nodes.len() / 9;
+            let results = outputs.len() / 5;
+            if store < count {
+                return false;
+            }
+            if answers < results {
+                return false;
+            }
+            if some_above(assignment, top) {
+                return false;
+            }
+            if some_output_outside(outputs, results, count) {
+                return false;
+            }
+            return true;
+        }
+    }
+    false
+}
+
 // The value of each output's wire.
 pub fn put_outputs(outputs: &[usize], count: usize, values: &[u8], answers: &mut [u8])
     requires { ⌜ (count * 5 ≤ length (now outputs)) × (count ≤ length (now answers)) × (someNotBelow (length (now values)) (outputWires (now outputs) count) ≡ false) ⌝ }
     ensures { λ _. ⌜ now (answers .exit) ≡ outputsFrom (now (values .entry)) (outputWires (now (outputs .entry)) count) ++ drop count (now (answers .entry)) ⌝ }
 {
     for j in 0..count {
-        let w = wire_of(outputs[j * 5 + 4]);
-        answers[j] = signal_value(w, values);
+        answers[j] = signal_value(outputs[j * 5 + 4], values);
     }
 }
 

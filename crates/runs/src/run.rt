@@ -1,20 +1,24 @@
 // The run along an order list.
 ghost use mathlib.Core.Path.{_≡_};
-ghost use mathlib.Core.Bool.{true};
-ghost use mathlib.Core.List.{_++_};
-ghost use Prim.Native.Nat.{_-_, _/_, _≤_};
+ghost use mathlib.Core.Bool.{true, false};
+ghost use mathlib.Core.List.{[], _++_};
+ghost use Prim.Native.Nat.{_+_, _-_, _*_, _/_, _≤_};
+ghost use lib.Dec.{ltb};
 ghost use lib.ListN.{length, replicate};
-ghost use Rattle.circuit.specs.declared.refusals.Checked.the-variants.{Sound};
+ghost use Rattle.laws.specs.Lists.{some};
+ghost use Rattle.circuit.specs.declared.refusals.Checked.the-variants.{Sound, Refused};
 ghost use Rattle.circuit.specs.Records.{nodesOf};
 ghost use Rattle.circuit.specs.Check.{nodesIn, wiresIn};
-ghost use Rattle.circuit.specs.Graph.{graphOf, fitList};
-ghost use Rattle.runs.specs.Runs.{inputCount, runStore, runOutputs};
-ghost use Rattle.runs.specs.Fit.{Accepted};
+ghost use Rattle.circuit.specs.Graph.{graphOf, fit};
+ghost use Rattle.runs.specs.Runs.{runOutputs};
+ghost use Rattle.runs.specs.Work.{Tells, Passing};
+ghost use Rattle.runs.specs.Steps.{Standing};
 ghost use Rattle.runs.specs.Calls.{runFault, runCall, ranResult};
 use crate::fitness::fit_list;
 use crate::inputs::put_inputs;
 use crate::inputs::wrong_assignment;
 use crate::outputs::give;
+use crate::outputs::prepared;
 use crate::outputs::refuse;
 use crate::outputs::room_fault;
 use crate::step::run_steps;
@@ -57,22 +61,66 @@ pub fn run_fault(
     }
 }
 
-// The store after a run: from its old contents, the inputs, then a step for each entry.
+// That refusal, where there is one.
+pub fn run_refusal(
+    nodes: &[usize],
+    outputs: &[usize],
+    order: &[usize],
+    assignment: &[u8],
+    store: usize,
+    answers: usize,
+) -> Refusal
+    requires { ⌜ (runFault (now nodes) (now outputs) (now order) (now assignment) store answers ≡ Sound → ⊥) ⌝ }
+    ensures { λ r. ⌜ runFault (now (nodes .entry)) (now (outputs .entry)) (now (order .entry)) (now (assignment .entry)) store answers ≡ Refused r ⌝ }
+{
+    let fault = run_fault(nodes, outputs, order, assignment, store, answers);
+    match fault {
+        Checked::Refused(e) => e,
+        // there is one
+        Checked::Sound => Refusal::NoRoom,
+    }
+}
+
+// Every value marks a cell that waits.
+pub fn mark_all(values: &mut [u8])
+    ensures { λ _. ⌜ now (values .exit) ≡ replicate (length (now (values .entry))) 3 ⌝ }
+{
+    for i in 0..values.len() {
+        values[i] = 3;
+    }
+}
+
+// A list of so many entries beside so many inputs has as many entries as there are cells.
+pub fn lists_cells(count: usize, inputs: usize, entries: usize) -> bool
+    ensures { λ r. ⌜ Tells r (entries + inputs ≡ count) ⌝ }
+{
+    if inputs <= count {
+        if entries == count - inputs {
+            return true;
+        }
+    }
+    false
+}
+
+// The inputs, then a step for each entry. False where a node fails, the inputs are not as many as the values, or the list is not fit.
 pub fn run_store(
     nodes: &[usize],
     count: usize,
     order: &[usize],
     assignment: &[u8],
     values: &mut [u8],
-)
-    requires { ⌜ Accepted (now nodes) count × (fitList (graphOf (nodesOf (now nodes) count)) (now order) ≡ true) × (count ≤ length (now values)) × (length (now assignment) ≡ inputCount (nodesOf (now nodes) count)) ⌝ }
-    ensures { λ _. ⌜ now (values .exit) ≡ runStore (nodesOf (now (nodes .entry)) count) (now (assignment .entry)) (now (order .entry)) (now (values .entry)) ⌝ }
+) -> bool
+    requires { ⌜ (count * 9 ≤ length (now nodes)) × (count ≤ length (now values)) × (some (ltb 2) (now assignment) ≡ false) ⌝ }
+    ensures { λ r. ⌜ Tells r (Passing (now (nodes .entry)) count (now (assignment .entry)) × (fit (graphOf (nodesOf (now (nodes .entry)) count)) [] (now (order .entry)) ≡ true)) × (r ≡ true → Standing (nodesOf (now (nodes .entry)) count) (now (assignment .entry)) (now (order .entry)) (now (values .exit))) ⌝ }
 {
-    put_inputs(nodes, count, assignment, values);
-    run_steps(nodes, count, order, values);
+    mark_all(values);
+    if put_inputs(nodes, count, assignment, values) {
+        return run_steps(nodes, count, order, values);
+    }
+    false
 }
 
-// What an accepted run does.
+// What an accepted run does; false where the call is to be refused.
 pub fn work(
     nodes: &[usize],
     outputs: &[usize],
@@ -80,15 +128,22 @@ pub fn work(
     assignment: &[u8],
     values: &mut [u8],
     answers: &mut [u8],
-)
-    requires { ⌜ runFault (now nodes) (now outputs) (now order) (now assignment) (length (now values)) (length (now answers)) ≡ Sound ⌝ }
-    ensures { λ _. ⌜ (now (answers .exit) ≡ runOutputs (nodesIn (now (nodes .entry))) (wiresIn (now (outputs .entry))) (now (assignment .entry)) (now (order .entry)) (now (values .entry)) ++ replicate (length (now (answers .entry)) - length (now (outputs .entry)) / 5) 0) × (now (values .exit) ≡ replicate (length (now (values .entry))) 0) ⌝ }
+) -> bool
+    ensures { λ r. ⌜ Tells r (runFault (now (nodes .entry)) (now (outputs .entry)) (now (order .entry)) (now (assignment .entry)) (length (now (values .entry))) (length (now (answers .entry))) ≡ Sound) × (r ≡ true → (now (answers .exit) ≡ runOutputs (nodesIn (now (nodes .entry))) (wiresIn (now (outputs .entry))) (now (assignment .entry)) (now (order .entry)) (now (values .entry)) ++ replicate (length (now (answers .entry)) - length (now (outputs .entry)) / 5) 0) × (now (values .exit) ≡ replicate (length (now (values .entry))) 0)) ⌝ }
 {
-    run_store(nodes, nodes.len() / 9, order, assignment, values);
-    give(outputs, outputs.len() / 5, values, answers);
+    let count = nodes.len() / 9;
+    if prepared(nodes, outputs, assignment, 2, values.len(), answers.len()) {
+        if lists_cells(count, assignment.len(), order.len()) {
+            if run_store(nodes, count, order, assignment, values) {
+                give(outputs, outputs.len() / 5, values, answers);
+                return true;
+            }
+        }
+    }
+    false
 }
 
-// The run along a list.
+// The run along a list. A refusal is looked for once there is one.
 pub fn run(
     nodes: &[usize],
     outputs: &[usize],
@@ -99,22 +154,11 @@ pub fn run(
 ) -> Ran
     ensures { λ r. ⌜ ranResult r (now (values .exit)) (now (answers .exit)) ≡ runCall (now (nodes .entry)) (now (outputs .entry)) (now (order .entry)) (now (assignment .entry)) (now (values .entry)) (now (answers .entry)) ⌝ }
 {
-    let fault = run_fault(
-        nodes,
-        outputs,
-        order,
-        assignment,
-        values.len(),
-        answers.len(),
-    );
-    match fault {
-        Checked::Refused(e) => {
-            refuse(values, answers);
-            return Ran::Refused(e);
-        }
-        Checked::Sound => {
-            work(nodes, outputs, order, assignment, values, answers);
-            return Ran::Cells(order.len());
-        }
+    let store = values.len();
+    let room = answers.len();
+    if work(nodes, outputs, order, assignment, values, answers) {
+        return Ran::Cells(order.len());
     }
+    refuse(values, answers);
+    Ran::Refused(run_refusal(nodes, outputs, order, assignment, store, room))
 }

@@ -1,41 +1,51 @@
-// The value of a wire, and a value as the table of answers takes it.
+// A record by its words: its check, and the value of a wire.
 ghost use mathlib.Core.Path.{_≡_};
 ghost use mathlib.Core.Bool.{false};
-ghost use Prim.Native.Nat.{_<_};
 ghost use lib.ListN.{length};
-ghost use Rattle.circuit.specs.Check.{notBelow};
+ghost use Prim.Native.Nat.{_+_, _*_, _≤_};
+ghost use Rattle.circuit.specs.Records.{wireOf, nodeAt};
+ghost use Rattle.circuit.specs.Check.{notBelow, nodeBroken};
 ghost use Rattle.runs.specs.Values.{signalValue};
-ghost use Rattle.runs.specs.Runs.{settled};
-use circuit::records::BoolWire;
 
-// The value of a wire.
-pub fn signal_value(signal: BoolWire, values: &[u8]) -> u8
-    requires { ⌜ notBelow (length (now values)) signal ≡ false ⌝ }
-    ensures { λ r. ⌜ r ≡ signalValue (now (values .entry)) signal ⌝ }
+// The value of a wire, by its word.
+pub fn signal_value(word: usize, values: &[u8]) -> u8
+    requires { ⌜ notBelow (length (now values)) (wireOf word) ≡ false ⌝ }
+    ensures { λ r. ⌜ r ≡ signalValue (now (values .entry)) (wireOf word) ⌝ }
 {
-    match signal {
-        BoolWire::Const(b) => {
-            if b {
-                return 1;
-            }
-            0
-        }
-        BoolWire::Node(n) => {
-            let k = n.0;
-            values[k]
-        }
+    if word < 2 {
+        return word as u8;
     }
+    values[word - 2]
 }
 
-// Whatever is not known is 2.
-pub fn settle(v: u8) -> usize
-    ensures { λ r. ⌜ (r ≡ settled v) × (r < 3) ⌝ }
+// Record k breaks a rule, or reads a node that is not earlier.
+pub fn broken_at(nodes: &[usize], k: usize) -> bool
+    requires { ⌜ k * 9 + 9 ≤ length (now nodes) ⌝ }
+    ensures { λ r. ⌜ r ≡ nodeBroken k (nodeAt (now (nodes .entry)) k) ⌝ }
 {
-    if v == 0 {
-        return 0;
+    let at = k * 9;
+    if nodes[at] == 1 {
+        return false;
     }
-    if v == 1 {
-        return 1;
+    if nodes[at] == 2 {
+        if k + 2 <= nodes[at + 7] {
+            return true;
+        }
+        if nodes[at + 1] == 1 {
+            if 4 <= nodes[at + 2] {
+                return true;
+            }
+            return false;
+        }
+        if nodes[at + 1] == 2 {
+            if 16 <= nodes[at + 2] {
+                return true;
+            }
+            if k + 2 <= nodes[at + 8] {
+                return true;
+            }
+            return false;
+        }
     }
-    2
+    true
 }

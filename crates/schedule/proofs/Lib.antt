@@ -14,3 +14,4 @@ pub mod Whole
 pub mod Call
 pub mod Theorems
 pub mod Examples
+pub mod Seeing

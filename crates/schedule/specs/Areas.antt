@@ -1,7 +1,7 @@
 -- What the ready and successor areas hold while the cells are taken: for each node the reads that wait and the first read of its
 -- chain, then the set of ready nodes; for each read the next read of the same cell.
 -- Assumes nothing.
-use Prim.Native.Nat.{ℕ, zero, suc, _+_, _-_, _*_, _/_, _%_, _≤_, _<_}
+use Prim.Native.Nat.{ℕ, zero, suc, _+_, _-_, _*_, _/_, _%_, _^_, _≤_, _<_}
 use mathlib.Core.Path.{_≡_}
 use mathlib.Core.Logic.{_≢_}
 use mathlib.Core.Bool.{Bool, true, false, not, cond, _||_, _&&_}
@@ -20,6 +20,10 @@ use Rattle.schedule.specs.Call.{orderIn}
 
 abbrev pub keyOf : KeyWords → Key
 keyOf k = record { first = k .first; second = k .second; third = k .third }
+
+-- the bits of the word of i from i on; or 0, which says nothing
+abbrev pub RestIs : List ℕ → ℕ → ℕ → Type 0
+RestIs s i rest = (rest ≡ 0 → ⊥) → rest ≡ getD s (i / 64) 0 / 2 ^ (i % 64)
 
 -- the node records by their words: kind (2 is a cell), count of wires, table, four of the name, first wire, second wire
 unfoldable pub cellAt : List ℕ → ℕ → Bool

@@ -38,13 +38,21 @@ pub fn key_at(keys: &[u32], node: usize) -> Key
     }
 }
 
-// Of two nodes the one of the greater key, the first on equal keys.
-pub fn better(keys: &[u32], best: usize, node: usize) -> usize
-    requires { ⌜ (3 * node + 2 < length (now keys)) × (3 * best + 2 < length (now keys)) ⌝ }
-    ensures { λ r. ⌜ r ≡ cond (above (keyAt (now (keys .entry)) node) (keyAt (now (keys .entry)) best)) node best ⌝ }
+// A node with its key.
+pub struct Best {
+    pub node: usize,
+    pub key: Key,
+}
+
+// Of two nodes the one of the greater key, the first on equal keys. The key of the best so far is kept beside it.
+pub fn better(keys: &[u32], best: Best, node: usize) -> Best
+    requires { ⌜ (3 * node + 2 < length (now keys)) × (keyOf (best .key) ≡ keyAt (now keys) (best .node)) ⌝ }
+    ensures { λ r. ⌜ (r .node ≡ cond (above (keyAt (now (keys .entry)) node) (keyAt (now (keys .entry)) (best .node))) node (best .node)) × (keyOf (r .key) ≡ keyAt (now (keys .entry)) (r .node)) ⌝ }
 {
-    if greater(key_at(keys, node), key_at(keys, best)) {
-        return node;
+    let key = key_at(keys, node);
+    let old = best.key;
+    if greater(key, old) {
+        return Best { node, key };
     }
     best
 }

@@ -6,13 +6,43 @@ ghost use lib.ListN.{length, take, drop};
 ghost use Rattle.laws.specs.Lists.{numbers};
 ghost use Rattle.readyset.specs.Sets.{member, Levels, First};
 ghost use Rattle.schedule.specs.Schedule.{keyAt, pick};
-ghost use Rattle.schedule.specs.Areas.{Counted, PickedIs};
+ghost use Rattle.schedule.specs.Areas.{Counted, PickedIs, RestIs};
+use crate::keys::Best;
 use crate::keys::better;
+use crate::keys::key_at;
 use crate::waiting::ReadyCells;
 
 pub struct Picked {
     pub node: usize,
     pub first: usize,
+}
+
+// A member, and the bits of its word above it.
+pub struct Seen {
+    pub node: usize,
+    pub rest: usize,
+}
+
+// The first member from i on, where `rest` has the bits of the word of i from i on, or is 0: mostly the next one is among them.
+pub fn see(set: &[usize], nodes: usize, i: usize, rest: usize) -> Seen
+    requires { ⌜ (nodes ≤ length (now set)) × (i ≤ nodes) × Levels (now set) nodes × RestIs (now set) i rest ⌝ }
+    ensures { λ r. ⌜ First (member (now (set .entry))) i nodes (r .node) × ((r .node < nodes) → RestIs (now (set .entry)) (r .node + 1) (r .rest)) ⌝ }
+{
+    if rest != 0 {
+        let t = usize::trailing_zeros(rest) as usize;
+        return Seen {
+            node: i + t,
+            rest: (rest >> t) >> 1,
+        };
+    }
+    let node = readyset::next(set, nodes, i);
+    if nodes <= node {
+        return Seen { node, rest: 0 };
+    }
+    Seen {
+        node,
+        rest: (set[node / 64] >> (node % 64)) >> 1,
+    }
 }
 
 // Among the `window` smallest members of the set, of which `first` is the smallest, the one of the greatest key.
@@ -22,17 +52,21 @@ pub fn pick_ready(set: &[usize], keys: &[u32], nodes: usize, window: usize, firs
 {
     let mut i = first + 1;
     let mut found = 1;
-    let mut best = first;
+    let key = key_at(keys, first);
+    let mut best = Best { node: first, key };
+    let mut rest = 0;
     while found < window {
-        let node = readyset::next(set, nodes, i);
+        let seen = see(set, nodes, i, rest);
+        let node = seen.node;
         if nodes <= node {
             break;
         }
         best = better(keys, best, node);
         found += 1;
         i = node + 1;
+        rest = seen.rest;
     }
-    best
+    best.node
 }
 
 pub fn least(a: usize, b: usize) -> usize

@@ -1,21 +1,33 @@
 // Bytes: a text of ASCII alone, a byte's first place, words compared, zeros.
 ghost use mathlib.Core.Path.{_≡_};
 ghost use mathlib.Core.List.{_++_};
-ghost use Prim.Native.Nat.{_+_, _-_, _≤_};
+ghost use Prim.Native.Nat.{_+_, _-_, _≤_, max};
 ghost use lib.ListN.{length, take, replicate};
 ghost use Rattle.laws.specs.Stretches.{stretch, run, isNot, sameBytes};
 ghost use Rattle.text.specs.Bytes.{isAscii, upper, isNamed};
 
-// Whether every byte is below 128.
+// The greater of two bytes.
+pub fn greater_byte(a: u8, b: u8) -> u8
+    ensures { λ r. ⌜ r ≡ max a b ⌝ }
+{
+    if a < b {
+        return b;
+    }
+    a
+}
+
+// Whether every byte is below 128: whether the greatest is, found with no way out in between, so that many bytes go at a time.
 pub fn is_ascii(text: &[u8]) -> bool
     ensures { λ r. ⌜ r ≡ isAscii (now (text .entry)) ⌝ }
 {
+    let mut high: u8 = 0;
     let mut i = 0;
     while i < text.len() {
-        if 128 <= text[i] {
-            return false;
-        }
+        high = greater_byte(high, text[i]);
         i += 1;
+    }
+    if 128 <= high {
+        return false;
     }
     true
 }

@@ -1,14 +1,23 @@
--- `define`: the four words of the record, then the head of its chain.
+-- `define`: the end of the search, the link there, then the four words of the record.
 -- Assumes nothing.
 use native.Mathlib.Omega.{arith}
 use lib.ListN.{length-set}
-use Rattle.names.proofs.Defining.{defined}
+use Rattle.names.proofs.Defined.{link-room, define-leaves}
 use borrow.Author.Needs.{needs}
 use Rattle.names.proofs.define.Statement.{statement}
 use Rattle.names.proofs.define.Tie as tie
 
-bucket-requires : tie.Need-bucket-requires
-bucket-requires c κs = search needs
+end-of-requires : tie.Need-end-of-requires
+end-of-requires c κs = search needs
+
+mul-word : tie.Need-mul-word
+mul-word c = search needs
+
+add-hang : tie.Need-add-hang
+add-hang c = search needs
+
+hang-requires : tie.Need-hang-requires
+hang-requires c κs = (c .before .before .before .end-of .ensures .0 .1, link-room (c .before .before .before .before .before .before .before .before .args .text .now) (c .before .before .before .before .before .before .before .before .args .heads .now) (c .before .before .before .before .before .before .before .before .args .names .now) (c .before .before .before .before .before .before .before .before .args .count) (c .before .before .before .before .before .before .before .before .args .start) (c .before .before .before .before .before .before .before .before .args .len) (c .before .before .before .before .before .before .before .before .args .wire) (c .before .before .before .end-of .result .bucket) (c .before .before .before .end-of .result .last) (c .before .before .before .end-of .result .bit) (c .before .before .before .end-of .result .trail) (c .before .before .before .before .before .before .before .before .pre .0) (c .before .before .before .before .before .before .before .before .pre .1 .0) (c .before .before .before .before .before .before .before .before .pre .1 .1 .0) (c .before .before .before .before .before .before .before .before .pre .1 .1 .1) (c .before .before .before .end-of .ensures .0 .0) (c .before .before .before .end-of .ensures .0 .1) (c .before .before .before .end-of .ensures .1 .0 .0) (c .before .before .before .end-of .ensures .1 .1) (λ i. omega (arith, c .before .before .before .before .before .before .slice-known .given i)))
 
 mul-at : tie.Need-mul-at
 mul-at c = search needs
@@ -37,45 +46,29 @@ mul-names-3 c = search needs
 slice-write-names-3 : tie.Need-slice-write-names-3
 slice-write-names-3 c = simp length-set (omega arith)
 
-mul-names-4 : tie.Need-mul-names-4
-mul-names-4 c = search needs
-
-element-copy-out-names : tie.Need-element-copy-out-names
-element-copy-out-names c = search needs
-
 add-names-3 : tie.Need-add-names-3
 add-names-3 c = search needs
 
-mul-names-5 : tie.Need-mul-names-5
-mul-names-5 c = search needs
+mul-names-4 : tie.Need-mul-names-4
+mul-names-4 c = search needs
 
 slice-write-names-4 : tie.Need-slice-write-names-4
 slice-write-names-4 c = simp length-set (omega arith)
-
-add-heads : tie.Need-add-heads
-add-heads c = search needs
-
-mul-heads : tie.Need-mul-heads
-mul-heads c = search needs
-
-element-write-heads : tie.Need-element-write-heads
-element-write-heads c = search needs
 
 same-length : tie.Need-same-length
 same-length c = search needs
 
 returns : tie.Need-returns
-returns c =
-    let s = c .before .before .before .before in
-    let a = c .before .before .before .before .args in
-    let r = c .before .bucket in
-    defined (a .text .now) (a .heads .now) (a .names .now) (a .count) (a .start) (a .len) (a .wire) (r .result) (s .pre .0) (s .pre .1 .0) (s .pre .1 .1) (r .ensures .0) (r .ensures .1)
+returns c = define-leaves (c .before .before .before .before .before .before .before .before .before .before .before .args .text .now) (c .before .before .before .before .before .before .before .before .before .before .before .args .heads .now) (c .before .before .before .before .before .before .before .before .before .before .before .args .names .now) (c .before .before .before .before .before .before .before .before .before .before .before .args .count) (c .before .before .before .before .before .before .before .before .before .before .before .args .start) (c .before .before .before .before .before .before .before .before .before .before .before .args .len) (c .before .before .before .before .before .before .before .before .before .before .before .args .wire) (c .before .before .before .before .before .before .end-of .result .bucket) (c .before .before .before .before .before .before .end-of .result .last) (c .before .before .before .before .before .before .end-of .result .bit) (c .before .before .before .before .before .before .end-of .result .trail) (c .before .before .before .before .before .before .before .before .before .before .before .pre .0) (c .before .before .before .before .before .before .before .before .before .before .before .pre .1 .0) (c .before .before .before .before .before .before .before .before .before .before .before .pre .1 .1 .0) (c .before .before .before .before .before .before .before .before .before .before .before .pre .1 .1 .1) (c .before .before .before .before .before .before .end-of .ensures .0 .0) (c .before .before .before .before .before .before .end-of .ensures .0 .1) (c .before .before .before .before .before .before .end-of .ensures .1 .0 .0) (c .before .before .before .before .before .before .end-of .ensures .1 .1) _ _ (c .before .before .hang .ensures .0) (c .before .before .hang .ensures .1)
 
 pub define-spec : {M : Type 1} → statement M
 define-spec =
     tie.close
     (tie.spec
-    bucket-requires
+    end-of-requires
+    mul-word
+    add-hang
+    hang-requires
     mul-at
     mul-names
     slice-write-names
@@ -85,13 +78,8 @@ define-spec =
     add-names-2
     mul-names-3
     slice-write-names-3
-    mul-names-4
-    element-copy-out-names
     add-names-3
-    mul-names-5
+    mul-names-4
     slice-write-names-4
-    add-heads
-    mul-heads
-    element-write-heads
     same-length
     returns)

@@ -21,7 +21,7 @@ enum-told : tie.Need-enum-told
 enum-told c = search needs
 
 lower-bench-gate-requires : tie.Need-lower-bench-gate-requires
-lower-bench-gate-requires c κs = (c .before .before .before .before .before .before .before .before .before .before .before .pre .0, ((c .before .before .before .before .before .plan-gate .ensures .inside, c .before .before .before .before .before .plan-gate .ensures .reach), c .before .before .before .before .before .plan-gate .ensures .driven (c .before .before .before .enum-told .given .1)))
+lower-bench-gate-requires c κs = (c .before .before .before .before .before .before .before .before .before .before .before .pre .0, ((c .before .before .before .before .before .plan-gate .ensures .inside, c .before .before .before .before .before .plan-gate .ensures .reach), (c .before .before .before .before .before .plan-gate .ensures .driven (c .before .before .before .enum-told .given .1), c .before .before .before .before .before .plan-gate .ensures .firsts (c .before .before .before .enum-told .given .1))))
 
 same-length : tie.Need-same-length
 same-length c = search needs

@@ -20,8 +20,8 @@ returns c = plan-refused (c .before .before .before .before .before .before .arg
 enum-told : tie.Need-enum-told
 enum-told c = search needs
 
-inputs-fault-requires : tie.Need-inputs-fault-requires
-inputs-fault-requires c κs = (c .before .before .before .before .pre .0, c .before .before .before .before .pre .1 .1 .reach)
+input-wires-requires : tie.Need-input-wires-requires
+input-wires-requires c κs = (c .before .before .before .before .pre .0, c .before .before .before .before .pre .1 .1 .reach)
 
 enum-known-driven : tie.Need-enum-known-driven
 enum-known-driven c = search needs
@@ -30,7 +30,7 @@ refused-plan-requires-2 : tie.Need-refused-plan-requires-2
 refused-plan-requires-2 c κs = search needs
 
 returns-2 : tie.Need-returns-2
-returns-2 c = plan-refused (c .before .before .before .before .before .before .before .before .before .args .text .now) (entries (c .before .before .before .before .before .before .before .before .before .args .names .now) (c .before .before .before .before .before .before .before .before .before .args .count)) (record { start = c .before .before .before .before .before .before .before .before .before .args .start; len = c .before .before .before .before .before .before .before .before .before .args .len }) _ (c .refused-plan2 .result) _ (c .refused-plan2 .ensures) (inputs-refused (c .before .before .before .before .before .before .before .before .before .args .text .now) (entries (c .before .before .before .before .before .before .before .before .before .args .names .now) (c .before .before .before .before .before .before .before .before .before .args .count)) (c .before .before .before .before .before .before .before .before .before .args .i) (c .before .before .before .before .before .enum-told .given .1) (c .before .before .before .before .inputs-fault .result) (c .before .before .before .before .inputs-fault .ensures) _ (c .before .before .driven .given .1))
+returns-2 c = plan-refused (c .before .before .before .before .before .before .before .before .before .args .text .now) (entries (c .before .before .before .before .before .before .before .before .before .args .names .now) (c .before .before .before .before .before .before .before .before .before .args .count)) (record { start = c .before .before .before .before .before .before .before .before .before .args .start; len = c .before .before .before .before .before .before .before .before .before .args .len }) _ (c .refused-plan2 .result) _ (c .refused-plan2 .ensures) (inputs-refused (c .before .before .before .before .before .before .before .before .before .args .text .now) (entries (c .before .before .before .before .before .before .before .before .before .args .names .now) (c .before .before .before .before .before .before .before .before .before .args .count)) (c .before .before .before .before .before .before .before .before .before .args .i) (c .before .before .before .before .before .enum-told .given .1) (c .before .before .before .before .input-wires .result .fault) (c .before .before .before .before .input-wires .ensures .fault-is) _ (c .before .before .driven .given .1))
 
 enum-told-2 : tie.Need-enum-told-2
 enum-told-2 c = search needs
@@ -39,7 +39,7 @@ operation-of-requires : tie.Need-operation-of-requires
 operation-of-requires c κs = c .before .before .before .before .before .before .before .pre .1 .1 .inside
 
 returns-3 : tie.Need-returns-3
-returns-3 c = plan-made (c .before .before .before .before .before .before .before .before .args .text .now) (entries (c .before .before .before .before .before .before .before .before .args .names .now) (c .before .before .before .before .before .before .before .before .args .count)) (c .before .before .before .before .before .before .before .before .args .i) (c .before .before .before .before .enum-told .given .1) (c .before .before .before .inputs-fault .result) (c .before .before .before .inputs-fault .ensures) (c .before .before .before .before .before .before .before .before .pre .1 .1) (c .before .enum-told2 .given .1) (c .operation-of .result) (c .operation-of .ensures) (record { start = c .before .before .before .before .before .before .before .before .args .start; len = c .before .before .before .before .before .before .before .before .args .len }) (c .before .before .before .before .before .before .before .before .pre .1 .0)
+returns-3 c = plan-made (c .before .before .before .before .before .before .before .before .args .text .now) (entries (c .before .before .before .before .before .before .before .before .args .names .now) (c .before .before .before .before .before .before .before .before .args .count)) (c .before .before .before .before .before .before .before .before .args .i) (c .before .before .before .before .enum-told .given .1) (c .before .before .before .input-wires .result .fault) (c .before .before .before .input-wires .ensures .fault-is) (c .before .before .before .before .before .before .before .before .pre .1 .1) (c .before .enum-told2 .given .1) (c .operation-of .result) (c .operation-of .ensures) (record { start = c .before .before .before .before .before .before .before .before .args .start; len = c .before .before .before .before .before .before .before .before .args .len }) (c .before .before .before .before .before .before .before .before .pre .1 .0) (c .before .before .before .input-wires .result .first) (c .before .before .before .input-wires .result .second) (c .before .before .before .input-wires .ensures .firsts)
 
 pub plan-inputs-spec : {M : Type 1} → statement M
 plan-inputs-spec =
@@ -49,7 +49,7 @@ plan-inputs-spec =
     refused-plan-requires
     returns
     enum-told
-    inputs-fault-requires
+    input-wires-requires
     enum-known-driven
     refused-plan-requires-2
     returns-2

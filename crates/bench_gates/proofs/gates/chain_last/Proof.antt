@@ -1,3 +1,5 @@
+-- `chain_last`: the wire of the last argument, then the cell.
+-- Assumes nothing.
 use mathlib.Core.List.{List}
 use Prim.Native.Nat.{ℕ, suc, _+_, _-_, _≤_, _<_}
 use mathlib.Core.Path.{_≡_, refl, sym, ap, _∙_}
@@ -20,7 +22,7 @@ use Rattle.bench_gates.specs.Walks.{chainWords}
 use Rattle.reading.specs.Reading.{addNamed}
 use Rattle.bench_gates.specs.Operations.{truthTable}
 use Rattle.bench_gates.specs.Gates.{cell, outputName}
-use Rattle.bench_gates.proofs.Chaining.{cell-is, last-none, last-made, same-places}
+use Rattle.bench_gates.proofs.Chaining.{last-none, last-made}
 use borrow.Author.Needs.{needs}
 use Rattle.bench_gates.proofs.gates.chain_last.Statement.{statement}
 use Rattle.bench_gates.proofs.gates.chain_last.Tie as tie
@@ -34,14 +36,8 @@ enum-told c = search needs
 enum-known-wire : tie.Need-enum-known-wire
 enum-known-wire c = search needs
 
-bench-binary-truth-table-requires : tie.Need-bench-binary-truth-table-requires
-bench-binary-truth-table-requires c κs = search needs
-
-bench-lut-requires : tie.Need-bench-lut-requires
-bench-lut-requires c κs = search needs
-
-add-named-requires : tie.Need-add-named-requires
-add-named-requires c κs = (c .before .before .before .before .before .before .before .before .before .before .before .before .before .before .pre .0, (c .before .before .before .before .before .before .before .before .before .before .before .before .before .before .pre .1 .0, c .before .before .before .bench-lut .ensures .1))
+chain-pair-requires : tie.Need-chain-pair-requires
+chain-pair-requires c κs = search needs
 
 same-length : tie.Need-same-length
 same-length c = search needs
@@ -56,7 +52,7 @@ same-length-3 : tie.Need-same-length-3
 same-length-3 c = search needs
 
 returns-2 : tie.Need-returns-2
-returns-2 c = (c .before .before .before .before .add-named .ensures .0, λ k l. c .before .before .before .before .add-named .ensures .1 ∙ same-places (length (c .before .before .before .before .before .before .before .before .before .before .before .before .before .before .before .before .before .before .before .args .nodes .now)) (length (c .before .before .before .before .before .before .before .before .before .before .before .before .before .before .before .before .before .before .before .args .names .now)) l (record { start = c .before .before .before .before .before .before .before .before .before .before .before .before .before .before .before .before .before .before .before .args .start; len = c .before .before .before .before .before .before .before .before .before .before .before .before .before .before .before .before .before .before .before .args .len }) (c .before .before .before .before .before .before .before .before .bench-lut .result) (heldOf (c .before .before .before .before .before .before .before .before .before .before .before .before .before .before .before .before .before .before .before .args .nodes .now) (c .before .before .before .before .before .before .before .before .before .before .before .before .before .before .before .before .before .before .before .args .names .now) (c .before .before .before .before .before .before .before .before .before .before .before .before .before .before .before .before .before .before .before .args .counts)) ∙ ap (λ (b : BoolNode). addNamed (placesIn (length (c .before .before .before .before .before .before .before .before .before .before .before .before .before .before .before .before .before .before .before .args .nodes .now)) (length (c .before .before .before .before .before .before .before .before .before .before .before .before .before .before .before .before .before .before .before .args .names .now)) l) (record { start = c .before .before .before .before .before .before .before .before .before .before .before .before .before .before .before .before .before .before .before .args .start; len = c .before .before .before .before .before .before .before .before .before .before .before .before .before .before .before .before .before .before .before .args .len }) b (heldOf (c .before .before .before .before .before .before .before .before .before .before .before .before .before .before .before .before .before .before .before .args .nodes .now) (c .before .before .before .before .before .before .before .before .before .before .before .before .before .before .before .before .before .before .before .args .names .now) (c .before .before .before .before .before .before .before .before .before .before .before .before .before .before .before .before .before .before .before .args .counts))) (cell-is _ (c .before .before .before .before .before .before .before .before .bench-lut .result) (c .before .before .before .before .before .before .before .before .bench-lut .ensures .0) ∙ ap (λ (i : ℕ). cell (outputName (record { start = c .before .before .before .before .before .before .before .before .before .before .before .before .before .before .before .before .before .before .before .args .start; len = c .before .before .before .before .before .before .before .before .before .before .before .before .before .before .before .before .before .before .before .args .len })) 2 i (c .before .before .before .before .before .before .before .before .before .before .before .before .before .before .before .before .before .before .before .args .signal) (c .before .before .before .before .before .before .before .before .before .before .before .wire .given .0 .0)) (c .before .before .before .before .before .before .before .before .before .bench-binary-truth-table .ensures)) ∙ last-made (c .before .before .before .before .before .before .before .before .before .before .before .before .before .before .before .before .before .before .before .args .text .now) (placesIn (length (c .before .before .before .before .before .before .before .before .before .before .before .before .before .before .before .before .before .before .before .args .nodes .now)) (length (c .before .before .before .before .before .before .before .before .before .before .before .before .before .before .before .before .before .before .before .args .names .now)) l) (record { start = c .before .before .before .before .before .before .before .before .before .before .before .before .before .before .before .before .before .before .before .args .start; len = c .before .before .before .before .before .before .before .before .before .before .before .before .before .before .before .before .before .before .before .args .len }) (c .before .before .before .before .before .before .before .before .before .before .before .before .before .before .before .before .before .before .before .args .operation) k (c .before .before .before .before .before .before .before .before .before .before .before .before .before .before .before .before .before .before .before .args .signal) (c .before .before .before .before .before .before .before .before .before .before .before .before .before .argument-wire .ensures .word) (heldOf (c .before .before .before .before .before .before .before .before .before .before .before .before .before .before .before .before .before .before .before .args .nodes .now) (c .before .before .before .before .before .before .before .before .before .before .before .before .before .before .before .before .before .before .before .args .names .now) (c .before .before .before .before .before .before .before .before .before .before .before .before .before .before .before .before .before .before .before .args .counts)) (argumentsFrom (c .before .before .before .before .before .before .before .before .before .before .before .before .before .before .before .before .before .before .before .args .text .now) (c .before .before .before .before .before .before .before .before .before .before .before .before .before .argument-wire .result .next) (c .before .before .before .before .before .before .before .before .before .before .before .before .before .before .before .before .before .before .before .args .end)) (omega (arith, ap length (c .before .before .before .before .before .before .before .before .before .before .before .before .before .argument-wire .ensures .first), c .before .before .before .before .before .before .before .before .before .before .before .before .before .before .before .before .before .before .before .pre .1 .2)) _ (sym (c .before .before .before .before .before .before .before .before .before .before .before .before .before .argument-wire .ensures .wire-is) ∙ c .before .before .before .before .before .before .before .before .before .before .before .wire .given .1) ∙ ap (λ (ws : List Word). chainWords (c .before .before .before .before .before .before .before .before .before .before .before .before .before .before .before .before .before .before .before .args .text .now) (placesIn (length (c .before .before .before .before .before .before .before .before .before .before .before .before .before .before .before .before .before .before .before .args .nodes .now)) (length (c .before .before .before .before .before .before .before .before .before .before .before .before .before .before .before .before .before .before .before .args .names .now)) l) (record { start = c .before .before .before .before .before .before .before .before .before .before .before .before .before .before .before .before .before .before .before .args .start; len = c .before .before .before .before .before .before .before .before .before .before .before .before .before .before .before .before .before .before .before .args .len }) (c .before .before .before .before .before .before .before .before .before .before .before .before .before .before .before .before .before .before .before .args .operation) k (c .before .before .before .before .before .before .before .before .before .before .before .before .before .before .before .before .before .before .before .args .signal) ws (heldOf (c .before .before .before .before .before .before .before .before .before .before .before .before .before .before .before .before .before .before .before .args .nodes .now) (c .before .before .before .before .before .before .before .before .before .before .before .before .before .before .before .before .before .before .before .args .names .now) (c .before .before .before .before .before .before .before .before .before .before .before .before .before .before .before .before .before .before .before .args .counts))) (sym (c .before .before .before .before .before .before .before .before .before .before .before .before .before .argument-wire .ensures .first)))
+returns-2 c = (c .before .before .before .before .chain-pair .ensures .0, λ k l. c .before .before .before .before .chain-pair .ensures .1 l ∙ last-made (c .before .before .before .before .before .before .before .before .before .before .before .before .before .before .before .before .before .args .text .now) (placesIn (length (c .before .before .before .before .before .before .before .before .before .before .before .before .before .before .before .before .before .args .nodes .now)) (length (c .before .before .before .before .before .before .before .before .before .before .before .before .before .before .before .before .before .args .names .now)) l) (record { start = c .before .before .before .before .before .before .before .before .before .before .before .before .before .before .before .before .before .args .start; len = c .before .before .before .before .before .before .before .before .before .before .before .before .before .before .before .before .before .args .len }) (c .before .before .before .before .before .before .before .before .before .before .before .before .before .before .before .before .before .args .operation) k (c .before .before .before .before .before .before .before .before .before .before .before .before .before .before .before .before .before .args .signal) (c .before .before .before .before .before .before .before .before .before .before .before .argument-wire .ensures .word) (heldOf (c .before .before .before .before .before .before .before .before .before .before .before .before .before .before .before .before .before .args .nodes .now) (c .before .before .before .before .before .before .before .before .before .before .before .before .before .before .before .before .before .args .names .now) (c .before .before .before .before .before .before .before .before .before .before .before .before .before .before .before .before .before .args .counts)) (argumentsFrom (c .before .before .before .before .before .before .before .before .before .before .before .before .before .before .before .before .before .args .text .now) (c .before .before .before .before .before .before .before .before .before .before .before .argument-wire .result .next) (c .before .before .before .before .before .before .before .before .before .before .before .before .before .before .before .before .before .args .end)) (omega (arith, ap length (c .before .before .before .before .before .before .before .before .before .before .before .argument-wire .ensures .first), c .before .before .before .before .before .before .before .before .before .before .before .before .before .before .before .before .before .pre .1 .2)) _ (sym (c .before .before .before .before .before .before .before .before .before .before .before .argument-wire .ensures .wire-is) ∙ c .before .before .before .before .before .before .before .before .before .wire .given .1) ∙ ap (λ (ws : List Word). chainWords (c .before .before .before .before .before .before .before .before .before .before .before .before .before .before .before .before .before .args .text .now) (placesIn (length (c .before .before .before .before .before .before .before .before .before .before .before .before .before .before .before .before .before .args .nodes .now)) (length (c .before .before .before .before .before .before .before .before .before .before .before .before .before .before .before .before .before .args .names .now)) l) (record { start = c .before .before .before .before .before .before .before .before .before .before .before .before .before .before .before .before .before .args .start; len = c .before .before .before .before .before .before .before .before .before .before .before .before .before .before .before .before .before .args .len }) (c .before .before .before .before .before .before .before .before .before .before .before .before .before .before .before .before .before .args .operation) k (c .before .before .before .before .before .before .before .before .before .before .before .before .before .before .before .before .before .args .signal) ws (heldOf (c .before .before .before .before .before .before .before .before .before .before .before .before .before .before .before .before .before .args .nodes .now) (c .before .before .before .before .before .before .before .before .before .before .before .before .before .before .before .before .before .args .names .now) (c .before .before .before .before .before .before .before .before .before .before .before .before .before .before .before .before .before .args .counts))) (sym (c .before .before .before .before .before .before .before .before .before .before .before .argument-wire .ensures .first)))
 
 pub chain-last-spec : {M : Type 1} → statement M
 chain-last-spec =
@@ -65,9 +61,7 @@ chain-last-spec =
     argument-wire-requires
     enum-told
     enum-known-wire
-    bench-binary-truth-table-requires
-    bench-lut-requires
-    add-named-requires
+    chain-pair-requires
     same-length
     returns
     same-length-2

@@ -29,13 +29,13 @@ enum-told : tie.Need-enum-told
 enum-told c = search needs
 
 lower-buffer-requires : tie.Need-lower-buffer-requires
-lower-buffer-requires c κs = (c .before .before .before .before .before .before .before .pre .0 .table, (c .before .before .before .before .before .before .before .pre .1 .0, c .before .before .before .before .before .before .before .pre .1 .1))
+lower-buffer-requires c κs = (c .before .before .before .before .before .before .before .pre .0 .table, (c .before .before .before .before .before .before .before .pre .1 .0, c .before .before .before .before .before .before .before .pre .1 .1 .0))
 
 enum-told-2 : tie.Need-enum-told-2
 enum-told-2 c = search needs
 
 lower-inverter-requires : tie.Need-lower-inverter-requires
-lower-inverter-requires c κs = (c .before .before .before .before .before .before .before .before .pre .0, (c .before .before .before .before .before .before .before .before .pre .1 .0, c .before .before .before .before .before .before .before .before .pre .1 .1))
+lower-inverter-requires c κs = (c .before .before .before .before .before .before .before .before .pre .0, (c .before .before .before .before .before .before .before .before .pre .1 .0, c .before .before .before .before .before .before .before .before .pre .1 .1 .0))
 
 enum-known-operation : tie.Need-enum-known-operation
 enum-known-operation c = search needs
@@ -71,7 +71,7 @@ returns-3 : tie.Need-returns-3
 returns-3 c = (c .before .before .before .before .lower-chain .ensures .0, λ l. c .before .before .before .before .lower-chain .ensures .1 l ∙ ap (λ (o : Operation). andThen (inputWires (c .before .before .before .before .before .before .before .before .before .before .before .before .before .before .args .text .now) (entries (c .before .before .before .before .before .before .before .before .before .before .before .before .before .before .args .names .now) (c .before .before .before .before .before .before .before .before .before .before .before .before .before .before .args .counts .names)) (argumentsFrom (c .before .before .before .before .before .before .before .before .before .before .before .before .before .before .args .text .now) (c .before .before .before .before .before .before .before .before .before .before .before .before .before .before .args .from) (c .before .before .before .before .before .before .before .before .before .before .before .before .before .before .args .end))) (λ xs. lowerGate (placesIn (length (c .before .before .before .before .before .before .before .before .before .before .before .before .before .before .args .nodes .now)) (length (c .before .before .before .before .before .before .before .before .before .before .before .before .before .before .args .names .now)) l) (record { start = c .before .before .before .before .before .before .before .before .before .before .before .before .before .before .args .start; len = c .before .before .before .before .before .before .before .before .before .before .before .before .before .before .args .len }) o xs (heldOf (c .before .before .before .before .before .before .before .before .before .before .before .before .before .before .args .nodes .now) (c .before .before .before .before .before .before .before .before .before .before .before .before .before .before .args .names .now) (c .before .before .before .before .before .before .before .before .before .before .before .before .before .before .args .counts)))) (sym (c .before .before .before .before .before .before .before .before .before .operation .given .1)))
 
 returns-4 : tie.Need-returns-4
-returns-4 c = (c .before .before .before .before .before .pre .0, λ l. unknown (placesIn (length (c .before .before .before .before .before .args .nodes .now)) (length (c .before .before .before .before .before .args .names .now)) l) (record { start = c .before .before .before .before .before .args .start; len = c .before .before .before .before .before .args .len }) (heldOf (c .before .before .before .before .before .args .nodes .now) (c .before .before .before .before .before .args .names .now) (c .before .before .before .before .before .args .counts)) (c .before .before .before .before .before .args .text .now) (entries (c .before .before .before .before .before .args .names .now) (c .before .before .before .before .before .args .counts .names)) (argumentsFrom (c .before .before .before .before .before .args .text .now) (c .before .before .before .before .before .args .from) (c .before .before .before .before .before .args .end)) (c .before .before .before .before .before .args .inputs) (c .before .before .before .before .before .pre .1 .1) ∙ ap (λ (o : Operation). andThen (inputWires (c .before .before .before .before .before .args .text .now) (entries (c .before .before .before .before .before .args .names .now) (c .before .before .before .before .before .args .counts .names)) (argumentsFrom (c .before .before .before .before .before .args .text .now) (c .before .before .before .before .before .args .from) (c .before .before .before .before .before .args .end))) (λ xs. lowerGate (placesIn (length (c .before .before .before .before .before .args .nodes .now)) (length (c .before .before .before .before .before .args .names .now)) l) (record { start = c .before .before .before .before .before .args .start; len = c .before .before .before .before .before .args .len }) o xs (heldOf (c .before .before .before .before .before .args .nodes .now) (c .before .before .before .before .before .args .names .now) (c .before .before .before .before .before .args .counts)))) (sym (c .enum-told3 .given .1)))
+returns-4 c = (c .before .before .before .before .before .pre .0, λ l. unknown (placesIn (length (c .before .before .before .before .before .args .nodes .now)) (length (c .before .before .before .before .before .args .names .now)) l) (record { start = c .before .before .before .before .before .args .start; len = c .before .before .before .before .before .args .len }) (heldOf (c .before .before .before .before .before .args .nodes .now) (c .before .before .before .before .before .args .names .now) (c .before .before .before .before .before .args .counts)) (c .before .before .before .before .before .args .text .now) (entries (c .before .before .before .before .before .args .names .now) (c .before .before .before .before .before .args .counts .names)) (argumentsFrom (c .before .before .before .before .before .args .text .now) (c .before .before .before .before .before .args .from) (c .before .before .before .before .before .args .end)) (c .before .before .before .before .before .args .inputs) (c .before .before .before .before .before .pre .1 .1 .0) ∙ ap (λ (o : Operation). andThen (inputWires (c .before .before .before .before .before .args .text .now) (entries (c .before .before .before .before .before .args .names .now) (c .before .before .before .before .before .args .counts .names)) (argumentsFrom (c .before .before .before .before .before .args .text .now) (c .before .before .before .before .before .args .from) (c .before .before .before .before .before .args .end))) (λ xs. lowerGate (placesIn (length (c .before .before .before .before .before .args .nodes .now)) (length (c .before .before .before .before .before .args .names .now)) l) (record { start = c .before .before .before .before .before .args .start; len = c .before .before .before .before .before .args .len }) o xs (heldOf (c .before .before .before .before .before .args .nodes .now) (c .before .before .before .before .before .args .names .now) (c .before .before .before .before .before .args .counts)))) (sym (c .enum-told3 .given .1)))
 
 pub lower-bench-gate-spec : {M : Type 1} → statement M
 lower-bench-gate-spec =

@@ -16,7 +16,7 @@ use Rattle.names.specs.Chains.{entries}
 use Rattle.reading.specs.Reading.{placesIn, addNamed}
 use Rattle.reading.specs.Holding.{outcome, heldOf}
 use Rattle.reading.proofs.Steps.{name-full, name-added}
-use Rattle.reading.proofs.Storing.{room-of}
+use Rattle.reading.proofs.Storing.{room-of, below-cap}
 use borrow.Author.Needs.{needs}
 use Rattle.reading.proofs.records.add_name.Statement.{statement}
 use Rattle.reading.proofs.records.add_name.Tie as tie
@@ -28,7 +28,11 @@ returns : tie.Need-returns
 returns c = (c .before .before .before .before .pre .0, rw (← c .before .records-in .ensures) (name-full (now (c .before .before .before .before .args .names)) (c .before .before .before .before .args .count) _ (record { start = c .before .before .before .before .args .start; len = c .before .before .before .before .args .len }) (c .before .before .before .before .args .wire) (c .if1 .taken)))
 
 define-requires : tie.Need-define-requires
-define-requires c κs = (c .before .before .before .before .before .before .pre .0, (c .before .before .before .before .before .before .pre .1, room-of 4 (length (now (c .before .before .before .before .before .before .args .names))) (c .before .before .before .before .before .before .args .count) (lit< tt) (omega (arith, c .before .before .before .records-in .ensures, c .before .before .if1 .left))))
+define-requires c κs =
+    let s = c .before .before .before .before .before .before in
+    let l = length (now (s .args .names)) in
+    let below : s .args .count < capacity 4 l = omega (arith, c .before .before .before .records-in .ensures, c .before .before .if1 .left) in
+    (s .pre .0, (s .pre .1, (room-of 4 l (s .args .count) (lit< tt) below, below-cap 4 l (s .args .count) below)))
 
 add-t9 : tie.Need-add-t9
 add-t9 c = search needs

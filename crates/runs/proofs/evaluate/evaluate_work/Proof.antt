@@ -1,33 +1,32 @@
 -- `evaluate_work` meets its contract.
 -- Assumes nothing.
 use mathlib.Core.Path.{ap, _∙_}
+use mathlib.Core.Bool.{false≢true}
 use mathlib.Core.List.{List, _++_}
 use Prim.Native.Nat.{ℕ, _-_, _/_}
 use native.Mathlib.Omega.{arith}
 use lib.ListN.{length, replicate}
-use borrow.Author.Needs.{needs}
 use Rattle.circuit.specs.Check.{wiresIn}
 use Rattle.circuit.proofs.Checks.{all-below-more}
 use Rattle.runs.specs.Values.{evaluated}
-use Rattle.runs.proofs.Calls.{accepted-nodes, outputs-wired, evaluates-of}
 use Rattle.runs.proofs.Evaluating.{values-outputs}
+use Rattle.runs.proofs.Passing.{told, denied, evaluate-sound, evaluate-prepared, evaluate-passing}
+use borrow.Author.Needs.{needs}
 use Rattle.runs.proofs.evaluate.evaluate_work.Statement.{statement}
 use Rattle.runs.proofs.evaluate.evaluate_work.Tie as tie
 
+prepared-requires : tie.Need-prepared-requires
+prepared-requires c κs = search needs
+
 put-values-requires : tie.Need-put-values-requires
 put-values-requires c κs =
-    let a = c .before .before .before .before .before .before .args in
-    let r = evaluates-of (a .nodes .now) (a .outputs .now) (a .assignment .now) (length (a .values .now)) (length (a .answers .now)) (c .before .before .before .before .before .before .pre) in
-    (accepted-nodes (a .nodes .now) (a .outputs .now) (r .checks), r .room .store-room, omega (arith, r .inputs), r .bits)
+    let p = told (c .before .before .prepared .result) (c .before .before .prepared .ensures) (c .before .if1 .taken) in
+    (omega arith, p .store-room, p .values)
 
 give-requires : tie.Need-give-requires
 give-requires c κs =
-    let a = c .before .before .before .before .before .before .before .before .before .before .before .args in
-    let r = evaluates-of (a .nodes .now) (a .outputs .now) (a .assignment .now) (length (a .values .now)) (length (a .answers .now)) (c .before .before .before .before .before .before .before .before .before .before .before .pre) in (
-      omega arith,
-      r .room .answers-room,
-      all-below-more (length (a .nodes .now) / 9) _ (omega (arith, r .room .store-room, c .before .before .before .before .put-values .kept .1 .1 .1 .0)) (wiresIn (a .outputs .now)) (outputs-wired (a .nodes .now) (a .outputs .now) (r .checks)),
-    )
+    let p = told (c .before .before .before .before .before .before .before .before .prepared .result) (c .before .before .before .before .before .before .before .before .prepared .ensures) (c .before .before .before .before .before .before .before .if1 .taken) in
+    (omega arith, p .answers-room, all-below-more (length (c .before .before .before .before .before .before .before .before .before .before .before .before .before .before .args .nodes .now) / 9) _ (omega (arith, p .store-room, c .before .before .before .before .before .put-values .kept .1 .1 .1 .0)) (wiresIn (c .before .before .before .before .before .before .before .before .before .before .before .before .before .before .args .outputs .now)) (p .wired))
 
 same-length : tie.Need-same-length
 same-length c = search needs
@@ -38,14 +37,37 @@ same-length-2 c = search needs
 returns : tie.Need-returns
 unfolding evaluated
 returns c =
-    let a = c .before .before .before .before .before .before .before .before .before .before .before .before .before .before .before .before .args in
-    let r = evaluates-of (a .nodes .now) (a .outputs .now) (a .assignment .now) (length (a .values .now)) (length (a .answers .now)) (c .before .before .before .before .before .before .before .before .before .before .before .before .before .before .before .before .pre) in
+    let p = told (c .before .before .before .before .before .before .before .before .before .before .before .before .before .prepared .result) (c .before .before .before .before .before .before .before .before .before .before .before .before .before .prepared .ensures) (c .before .before .before .before .before .before .before .before .before .before .before .before .if1 .taken) in
+    let v = c .before .before .before .before .before .before .before .before .before .before .put-values .ensures in
     let g = c .before .before .before .before .give .ensures in (
-      g .0 ∙ ap (λ (l : List ℕ). l ++ replicate (length (a .answers .now) - length (a .outputs .now) / 5) 0)
-          (values-outputs _ _ (length (a .nodes .now) / 9) (wiresIn (a .outputs .now)) (c .before .before .before .before .before .before .before .before .before .put-values .ensures) (outputs-wired (a .nodes .now) (a .outputs .now) (r .checks))),
-      g .1 ∙ ap (λ (n : ℕ). replicate n 0) (c .before .before .before .before .before .before .before .before .before .put-values .kept .1 .1 .1 .0),
+      evaluate-sound (c .before .before .before .before .before .before .before .before .before .before .before .before .before .before .before .before .before .before .before .args .nodes .now) (c .before .before .before .before .before .before .before .before .before .before .before .before .before .before .before .before .before .before .before .args .outputs .now) (c .before .before .before .before .before .before .before .before .before .before .before .before .before .before .before .before .before .before .before .args .assignment .now) (length (c .before .before .before .before .before .before .before .before .before .before .before .before .before .before .before .before .before .before .before .args .values .now)) (length (c .before .before .before .before .before .before .before .before .before .before .before .before .before .before .before .before .before .before .before .args .answers .now)) p (told (c .before .before .before .before .before .before .before .before .before .before .put-values .result) (v .0) (c .before .before .before .before .before .before .before .if2 .taken)),
+      λ e. (
+        g .0 ∙ ap (λ (l : List ℕ). l ++ replicate (length (c .before .before .before .before .before .before .before .before .before .before .before .before .before .before .before .before .before .before .before .args .answers .now) - length (c .before .before .before .before .before .before .before .before .before .before .before .before .before .before .before .before .before .before .before .args .outputs .now) / 5) 0) (values-outputs _ _ (length (c .before .before .before .before .before .before .before .before .before .before .before .before .before .before .before .before .before .before .before .args .nodes .now) / 9) (wiresIn (c .before .before .before .before .before .before .before .before .before .before .before .before .before .before .before .before .before .before .before .args .outputs .now)) (v .1 (c .before .before .before .before .before .before .before .if2 .taken)) (p .wired)),
+        g .1 ∙ ap (λ (n : ℕ). replicate n 0) (c .before .before .before .before .before .before .before .before .before .before .put-values .kept .1 .1 .1 .0),
+      ),
     )
+
+same-length-3 : tie.Need-same-length-3
+same-length-3 c = search needs
+
+returns-2 : tie.Need-returns-2
+returns-2 c =
+    (λ e. denied (c .before .before .before .put-values .result) (c .before .before .before .put-values .ensures .0) (c .if2 .left) (evaluate-passing (c .before .before .before .before .before .before .before .before .before .before .before .before .args .nodes .now) (c .before .before .before .before .before .before .before .before .before .before .before .before .args .outputs .now) (c .before .before .before .before .before .before .before .before .before .before .before .before .args .assignment .now) (length (c .before .before .before .before .before .before .before .before .before .before .before .before .args .values .now)) (length (c .before .before .before .before .before .before .before .before .before .before .before .before .args .answers .now)) e), λ e. absurd (false≢true e))
+
+returns-3 : tie.Need-returns-3
+returns-3 c =
+    (λ e. denied (c .before .prepared .result) (c .before .prepared .ensures) (c .if1 .left) (evaluate-prepared (c .before .before .before .before .before .before .before .args .nodes .now) (c .before .before .before .before .before .before .before .args .outputs .now) (c .before .before .before .before .before .before .before .args .assignment .now) (length (c .before .before .before .before .before .before .before .args .values .now)) (length (c .before .before .before .before .before .before .before .args .answers .now)) e), λ e. absurd (false≢true e))
 
 pub evaluate-work-spec : {M : Type 1} → statement M
 evaluate-work-spec =
-    tie.close (tie.spec put-values-requires give-requires same-length same-length-2 returns)
+    tie.close
+    (tie.spec
+    prepared-requires
+    put-values-requires
+    give-requires
+    same-length
+    same-length-2
+    returns
+    same-length-3
+    returns-2
+    returns-3)

@@ -1,8 +1,8 @@
 -- `put_input` meets its contract.
 -- Assumes nothing.
 use native.Mathlib.Omega.{arith}
-use borrow.Author.Needs.{needs}
 use Rattle.runs.proofs.Turns.{word-cell, word-other}
+use borrow.Author.Needs.{needs}
 use Rattle.runs.proofs.inputs.put_input.Statement.{statement}
 use Rattle.runs.proofs.inputs.put_input.Tie as tie
 
@@ -17,27 +17,25 @@ shared-slice-read-if1 c = search needs
 
 returns : tie.Need-returns
 returns c =
-    let a = c .before .before .args in
-    let e = word-cell (a .nodes .now) (a .k) (c .if1 .taken) in
+    let e = word-cell (c .before .before .before .before .before .args .nodes .now) (c .before .before .before .before .before .args .k) (c .if1 .taken) in
     record { value = rw e; passed = rw e }
 
-shared-slice-read-values : tie.Need-shared-slice-read-values
-shared-slice-read-values c = c .before .before .before .pre .2 (word-other (c .before .before .before .args .nodes .now) (c .before .before .before .args .k) (c .before .if1 .left))
+assigned-at-requires : tie.Need-assigned-at-requires
+assigned-at-requires c κs = search needs
 
 slice-write-values : tie.Need-slice-write-values
 slice-write-values c = search needs
 
 add-result : tie.Need-add-result
-add-result c = omega (arith, c .before .before .before .pre .2 (word-other (c .before .before .before .args .nodes .now) (c .before .before .before .args .k) (c .before .if1 .left)))
+add-result c = omega (arith, c .before .before .before .before .before .before .pre .1, c .before .before .before .before .before .before .pre .2)
 
 same-length : tie.Need-same-length
 same-length c = search needs
 
 returns-2 : tie.Need-returns-2
 returns-2 c =
-    let a = c .before .before .before .args in
-    let e = word-other (a .nodes .now) (a .k) (c .before .if1 .left) in
-    record { value = rw e; passed = rw e }
+    let e = word-other (c .before .before .before .before .before .before .args .nodes .now) (c .before .before .before .before .before .before .args .k) (c .before .if1 .left) in
+    record { value = rw (e, c .assigned-at .ensures); passed = rw e }
 
 pub put-input-spec : {M : Type 1} → statement M
 put-input-spec =
@@ -47,7 +45,7 @@ put-input-spec =
     mul-if1-2
     shared-slice-read-if1
     returns
-    shared-slice-read-values
+    assigned-at-requires
     slice-write-values
     add-result
     same-length

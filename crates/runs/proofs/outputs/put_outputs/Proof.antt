@@ -12,7 +12,7 @@ use Rattle.laws.proofs.Filling.{fill-next}
 use Rattle.circuit.specs.Records.{outputWires, noWire}
 use Rattle.circuit.specs.Check.{notBelow}
 use Rattle.circuit.proofs.Codes.{length-output-wires}
-use Rattle.runs.specs.Values.{signalValue, outputsFrom}
+use Rattle.runs.specs.Values.{outputsFrom}
 use Rattle.runs.proofs.Turns.{length-outputs, out-at, output-at}
 use Rattle.runs.proofs.outputs.put_outputs.Statement.{statement}
 use Rattle.runs.proofs.outputs.put_outputs.Tie as tie
@@ -26,32 +26,26 @@ abbrev μ-loop : tie.MeasureT-loop
 loop-holds : tie.Need-loop-holds Inv-loop μ-loop
 loop-holds c = (refl, zero-le, refl)
 
-mul-wire-of : tie.Need-mul-wire-of Inv-loop μ-loop
-mul-wire-of c = omega (arith, c .before .before .before .before .before .pre .0)
+mul-signal-value : tie.Need-mul-signal-value Inv-loop μ-loop
+mul-signal-value c = omega (arith, c .before .before .before .before .before .pre .0)
 
-add-wire-of : tie.Need-add-wire-of Inv-loop μ-loop
-add-wire-of c = omega (arith, c .before .before .before .before .before .pre .0)
+add-signal-value : tie.Need-add-signal-value Inv-loop μ-loop
+add-signal-value c = omega (arith, c .before .before .before .before .before .pre .0)
 
-mul-wire-of-2 : tie.Need-mul-wire-of-2 Inv-loop μ-loop
-mul-wire-of-2 c = search needs
+mul-signal-value-2 : tie.Need-mul-signal-value-2 Inv-loop μ-loop
+mul-signal-value-2 c = search needs
 
-shared-slice-read-wire-of : tie.Need-shared-slice-read-wire-of Inv-loop μ-loop
-shared-slice-read-wire-of c = omega (arith, c .before .before .before .before .before .before .pre .0)
-
-wire-of-requires : tie.Need-wire-of-requires Inv-loop μ-loop
-wire-of-requires c κs = search needs
+shared-slice-read-signal-value : tie.Need-shared-slice-read-signal-value Inv-loop μ-loop
+shared-slice-read-signal-value c = omega (arith, c .before .before .before .before .before .before .pre .0)
 
 signal-value-requires : tie.Need-signal-value-requires Inv-loop μ-loop
 signal-value-requires c κs =
-    let a = c .before .before .before .before .before .before .before .args in
-    let m = length (a .values .now) in
-    let j = c .before .before .before .loop .j in
-    let h = c .before .before .loop-test .taken in
-    let l : j < length (outputWires (a .outputs .now) (a .count)) = omega (arith, length-output-wires (a .outputs .now) (a .count)) in
-    ap (notBelow m) (c .wire-of .ensures ∙ sym (out-at (a .values .now) (a .outputs .now) (a .count) j h)) ∙ none-at (notBelow m) (outputWires (a .outputs .now) (a .count)) noWire j l (c .before .before .before .before .before .before .before .pre .2)
+    let m = length (c .before .before .before .before .before .before .args .values .now) in
+    let l : c .before .before .loop .j < length (outputWires (c .before .before .before .before .before .before .args .outputs .now) (c .before .before .before .before .before .before .args .count)) = omega (arith, length-output-wires (c .before .before .before .before .before .before .args .outputs .now) (c .before .before .before .before .before .before .args .count)) in
+    ap (notBelow m) (sym (out-at (c .before .before .before .before .before .before .args .values .now) (c .before .before .before .before .before .before .args .outputs .now) (c .before .before .before .before .before .before .args .count) (c .before .before .loop .j) (c .before .loop-test .taken))) ∙ none-at (notBelow m) (outputWires (c .before .before .before .before .before .before .args .outputs .now) (c .before .before .before .before .before .before .args .count)) noWire (c .before .before .loop .j) l (c .before .before .before .before .before .before .pre .2)
 
 slice-write-answers : tie.Need-slice-write-answers Inv-loop μ-loop
-slice-write-answers c = omega (arith, c .before .before .before .before .before .before .before .before .pre .1, c .before .before .before .before .loop .inv .2)
+slice-write-answers c = omega (arith, c .before .before .before .before .before .before .before .pre .1, c .before .before .before .loop .inv .2)
 
 add-j : tie.Need-add-j Inv-loop μ-loop
 add-j c = search needs
@@ -61,15 +55,12 @@ loop-less c = search needs
 
 loop-again : tie.Need-loop-again Inv-loop μ-loop
 loop-again c =
-    let a = c .before .before .before .before .before .before .before .before .args in
-    let l = c .before .before .before .before .loop in
-    let h = c .before .before .before .loop-test .taken in
-    let full = outputsFrom (a .values .now) (outputWires (a .outputs .now) (a .count)) in
-    let fits : l .j < length full = omega (arith, length-outputs (a .values .now) (a .outputs .now) (a .count)) in
-    let v : c .signal-value .result ≡ getD full (l .j) 0 = c .signal-value .ensures ∙ ap (signalValue (a .values .now)) (c .before .wire-of .ensures) ∙ sym (output-at (a .values .now) (a .outputs .now) (a .count) (l .j) h) in (
-      ap₂ (λ (x : List ℕ) (y : ℕ). set x (l .j) y) (l .inv .0) v ∙ fill-next full (a .answers .now) (l .j) fits (omega (arith, c .before .before .before .before .before .before .before .before .pre .1)),
+    let full = outputsFrom (c .before .before .before .before .before .before .before .args .values .now) (outputWires (c .before .before .before .before .before .before .before .args .outputs .now) (c .before .before .before .before .before .before .before .args .count)) in
+    let fits : c .before .before .before .loop .j < length full = omega (arith, length-outputs (c .before .before .before .before .before .before .before .args .values .now) (c .before .before .before .before .before .before .before .args .outputs .now) (c .before .before .before .before .before .before .before .args .count)) in
+    let v : c .signal-value .result ≡ getD full (c .before .before .before .loop .j) 0 = c .signal-value .ensures ∙ sym (output-at (c .before .before .before .before .before .before .before .args .values .now) (c .before .before .before .before .before .before .before .args .outputs .now) (c .before .before .before .before .before .before .before .args .count) (c .before .before .before .loop .j) (c .before .before .loop-test .taken)) in (
+      ap₂ (λ (x : List ℕ) (y : ℕ). set x (c .before .before .before .loop .j) y) (c .before .before .before .loop .inv .0) v ∙ fill-next full (c .before .before .before .before .before .before .before .args .answers .now) (c .before .before .before .loop .j) fits (omega (arith, c .before .before .before .before .before .before .before .pre .1)),
       omega arith,
-      length-set (l .answers) (l .j) (c .signal-value .result) ∙ l .inv .2,
+      length-set (c .before .before .before .loop .answers) (c .before .before .before .loop .j) (c .signal-value .result) ∙ c .before .before .before .loop .inv .2,
     )
 
 same-length : tie.Need-same-length Inv-loop μ-loop
@@ -77,11 +68,9 @@ same-length c = c .before .loop .inv .2
 
 returns : tie.Need-returns Inv-loop μ-loop
 returns c =
-    let a = c .before .before .before .before .before .args in
-    let l = c .before .loop in
-    let e : l .j ≡ a .count = omega arith in
-    let full = outputsFrom (a .values .now) (outputWires (a .outputs .now) (a .count)) in
-    l .inv .0 ∙ ap₂ (λ (x : List ℕ) (k : ℕ). x ++ drop k (a .answers .now)) (take-all (l .j) full (omega (arith, length-outputs (a .values .now) (a .outputs .now) (a .count)))) e
+    let e : c .before .loop .j ≡ c .before .before .before .before .before .args .count = omega arith in
+    let full = outputsFrom (c .before .before .before .before .before .args .values .now) (outputWires (c .before .before .before .before .before .args .outputs .now) (c .before .before .before .before .before .args .count)) in
+    c .before .loop .inv .0 ∙ ap₂ (λ (x : List ℕ) (k : ℕ). x ++ drop k (c .before .before .before .before .before .args .answers .now)) (take-all (c .before .loop .j) full (omega (arith, length-outputs (c .before .before .before .before .before .args .values .now) (c .before .before .before .before .before .args .outputs .now) (c .before .before .before .before .before .args .count)))) e
 
 pub put-outputs-spec : {M : Type 1} → statement M
 put-outputs-spec =
@@ -90,11 +79,10 @@ put-outputs-spec =
     Inv-loop
     μ-loop
     loop-holds
-    mul-wire-of
-    add-wire-of
-    mul-wire-of-2
-    shared-slice-read-wire-of
-    wire-of-requires
+    mul-signal-value
+    add-signal-value
+    mul-signal-value-2
+    shared-slice-read-signal-value
     signal-value-requires
     slice-write-answers
     add-j

@@ -1,47 +1,45 @@
--- `is_ascii`: what is left is ASCII exactly if the whole is.
+-- `is_ascii`: the greatest byte so far and what is left tell of the whole.
 -- Assumes nothing.
-use borrow.Author.Needs.{needs}
-use Prim.Native.Nat.{_-_, _≤_, zero-le}
-use mathlib.Core.Path.{_≡_, refl, _∙_}
+use Prim.Native.Nat.{ℕ, _+_, _-_, _≤_}
+use mathlib.Core.Bool.{_&&_}
+use mathlib.Core.Path.{_≡_, refl, ap, _∙_}
 use native.Mathlib.Omega.{arith}
+use lib.Dec.{ltb}
 use lib.ListN.{length, drop}
 use Rattle.text.specs.Bytes.{isAscii}
-use Rattle.text.proofs.ByteLaws.{ascii-on, ascii-stop, ascii-end}
+use Rattle.text.proofs.ByteLaws.{ascii-next, ascii-none, ascii-some}
 use Rattle.text.proofs.bytes.is_ascii.Statement.{statement}
 use Rattle.text.proofs.bytes.is_ascii.Tie as tie
 
 abbrev Inv-loop : tie.InvT-loop
-Inv-loop text i₀ i = (i ≤ length text) × (isAscii (drop i text) ≡ isAscii text)
+Inv-loop text high₀ i₀ high i = (i ≤ length text) × (ltb high 128 && isAscii (drop i text) ≡ isAscii text)
 
 abbrev μ-loop : tie.MeasureT-loop
-μ-loop text i₀ i = length text - i
+μ-loop text high₀ i₀ high i = length text - i
 
 loop-holds : tie.Need-loop-holds Inv-loop μ-loop
-loop-holds c = (zero-le, refl)
+loop-holds c = (omega arith, refl)
 
-shared-slice-read-if1 : tie.Need-shared-slice-read-if1 Inv-loop μ-loop
-shared-slice-read-if1 c = search needs
+shared-slice-read-greater-byte : tie.Need-shared-slice-read-greater-byte Inv-loop μ-loop
+shared-slice-read-greater-byte c = omega arith
 
-returns : tie.Need-returns Inv-loop μ-loop
-returns c =
-    let l = c .before .before .before .loop in
-    ascii-stop (c .before .before .before .before .args .text .now) (l .i) (omega arith) (c .if1 .taken) ∙ l .inv .1
+greater-byte-requires : tie.Need-greater-byte-requires Inv-loop μ-loop
+greater-byte-requires c κs = tt
 
 add-i : tie.Need-add-i Inv-loop μ-loop
-add-i c = search needs
+add-i c = omega arith
 
 loop-less : tie.Need-loop-less Inv-loop μ-loop
-loop-less c = search needs
+loop-less c = omega arith
 
 loop-again : tie.Need-loop-again Inv-loop μ-loop
-loop-again c =
-    let l = c .before .before .before .loop in
-    (omega arith, ascii-on (c .before .before .before .before .args .text .now) (l .i) (omega arith) (c .if1 .left) ∙ l .inv .1)
+loop-again c = (omega arith, ap (λ (h : ℕ). ltb h 128 && isAscii (drop (c .before .before .before .loop .i + 1) (c .before .before .before .before .before .args .text .now))) (c .greater-byte .ensures) ∙ ascii-next (c .before .before .before .before .before .args .text .now) (c .before .before .before .loop .i) (c .before .before .before .loop .high) (c .before .before .loop-test .taken) ∙ c .before .before .before .loop .inv .1)
+
+returns : tie.Need-returns Inv-loop μ-loop
+returns c = ascii-some (c .before .before .before .before .args .text .now) (c .before .before .loop .i) (c .before .before .loop .high) (c .if1 .taken) ∙ c .before .before .loop .inv .1
 
 returns-2 : tie.Need-returns-2 Inv-loop μ-loop
-returns-2 c =
-    let l = c .before .loop in
-    ascii-end (c .before .before .args .text .now) (l .i) (omega arith) ∙ l .inv .1
+returns-2 c = ascii-none (c .before .before .before .before .args .text .now) (c .before .before .loop .i) (c .before .before .loop .high) (c .before .loop-test .left) (c .if1 .left) ∙ c .before .before .loop .inv .1
 
 pub is-ascii-spec : {M : Type 1} → statement M
 is-ascii-spec =
@@ -50,9 +48,10 @@ is-ascii-spec =
     Inv-loop
     μ-loop
     loop-holds
-    shared-slice-read-if1
-    returns
+    shared-slice-read-greater-byte
+    greater-byte-requires
     add-i
     loop-less
     loop-again
+    returns
     returns-2)

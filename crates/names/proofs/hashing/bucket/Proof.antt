@@ -6,9 +6,9 @@ use native.Mathlib.Omega.{arith}
 use Rattle.laws.specs.Stretches.{stretch}
 use Rattle.names.specs.Chains.{wrappingSum, bucketOf}
 use Rattle.laws.proofs.Stretches.{rest-start}
-use Rattle.names.proofs.ChainLaws.{sum-step, sum-end}
-use Rattle.names.proofs.bucket.Statement.{statement}
-use Rattle.names.proofs.bucket.Tie as tie
+use Rattle.names.proofs.Hashes.{sum-step, sum-end}
+use Rattle.names.proofs.hashing.bucket.Statement.{statement}
+use Rattle.names.proofs.hashing.bucket.Tie as tie
 
 abbrev Inv-loop : tie.InvT-loop
 Inv-loop text start len sum₀ i₀ sum i =
