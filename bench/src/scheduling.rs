@@ -48,10 +48,10 @@ impl Areas {
     }
 }
 
-/// Sizes that double are for one window of some shapes.
+/// Sizes that double are for some windows of some shapes.
 fn wanted(shape: Shape, window: usize, size: usize) -> bool {
     let power = [1_000, 10_000, 100_000, 1_000_000].contains(&size);
-    power || matches!((shape, window), (Shape::Chain, 1) | (Shape::Wide, 2) | (Shape::Layered, 64))
+    power || matches!((shape, window), (Shape::Chain, 1) | (Shape::Wide, 2) | (Shape::Layered, 64) | (Shape::Wide | Shape::Layered, usize::MAX))
 }
 
 pub fn all() {

@@ -13,6 +13,7 @@ use crate::gates::gate_line;
 use circuit::refusals::Checked;
 use reading::records::Counts;
 use text::bytes::find_byte;
+use text::bytes::find_far_byte;
 
 // The line between two places: a gate or a declaration.
 pub fn read_line(
@@ -66,7 +67,7 @@ pub fn read_lines(
     let mut counts = Counts { nodes: 0, names: 0 };
     let mut n = 0;
     while at < size {
-        let end = find_byte(text, 10, at, size);
+        let end = find_far_byte(text, 10, at, size);
         let r = read_line(text, at, end, counts, n, heads, nodes, names, outputs);
         let fault = r.fault;
         if let Checked::Refused(_) = fault {

@@ -18,7 +18,7 @@ use circuit::refusals::Refusal;
 use cover::directives::Directive;
 use cover::directives::directive_of;
 use reading::records::Counts;
-use text::bytes::find_byte;
+use text::bytes::find_far_byte;
 use text::words::next_word;
 
 // A fault, or none, what has been read, and whether a row may stand next.
@@ -180,7 +180,7 @@ pub fn read_lines(
     let mut counts = Counts { nodes: 0, names: 0 };
     let mut n = 0;
     while at < size {
-        let end = find_byte(text, 10, at, size);
+        let end = find_far_byte(text, 10, at, size);
         let r = read_line(
             text,
             at,

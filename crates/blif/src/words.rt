@@ -14,7 +14,7 @@ use reading::records::Counted;
 use reading::records::Counts;
 use reading::records::Step;
 use reading::records::add_input;
-use text::words::next_word;
+use text::words::next_name;
 
 // The words of `.inputs`.
 pub fn input_words(
@@ -34,7 +34,7 @@ pub fn input_words(
     let mut at = from;
     let mut held = counts;
     while at < end {
-        let w = next_word(text, at, end);
+        let w = next_name(text, at, end);
         let start = w.start;
         let len = w.len;
         if len == 0 {
@@ -73,7 +73,7 @@ pub fn output_words(
     let mut at = from;
     let mut n = count;
     while at < end {
-        let w = next_word(text, at, end);
+        let w = next_name(text, at, end);
         let start = w.start;
         let len = w.len;
         if len == 0 {

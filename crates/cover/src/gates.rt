@@ -6,7 +6,7 @@ ghost use Rattle.laws.specs.Stretches.{stretch};
 ghost use Rattle.text.specs.Words.{words};
 ghost use Rattle.cover.specs.Gates.{noteWord, GateIs};
 use text::words::Word;
-use text::words::next_word;
+use text::words::next_name;
 
 // How many words there are, the first two, and the last.
 pub struct Gate {
@@ -61,7 +61,7 @@ pub fn gate_words(text: &[u8], from: usize, end: usize) -> Gate
     };
     let mut at = from;
     while at < end {
-        let w = next_word(text, at, end);
+        let w = next_name(text, at, end);
         let start = w.start;
         let len = w.len;
         if len == 0 {

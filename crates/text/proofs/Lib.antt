@@ -1,3 +1,5 @@
+pub mod EightLaws
+pub mod RunLaws
 pub mod ByteLaws
 pub mod BlankLaws
 pub mod WordLaws

@@ -1,3 +1,4 @@
+pub mod Eights
 pub mod Bytes
 pub mod Blanks
 pub mod Words

@@ -5,6 +5,9 @@ ghost use Prim.Native.Nat.{_+_, _-_, _≤_, max};
 ghost use lib.ListN.{length, take, replicate};
 ghost use Rattle.laws.specs.Stretches.{stretch, run, isNot, sameBytes};
 ghost use Rattle.text.specs.Bytes.{isAscii, upper, isNamed};
+use crate::eights::find_between;
+use crate::eights::least;
+use crate::eights::wide;
 
 // The greater of two bytes.
 pub fn greater_byte(a: u8, b: u8) -> u8
@@ -32,8 +35,8 @@ pub fn is_ascii(text: &[u8]) -> bool
     true
 }
 
-// The first place of a byte, from `from` on and before `end`; `end` if there is none.
-pub fn find_byte(text: &[u8], x: u8, from: usize, end: usize) -> usize
+// The first place of a byte, from `from` on and before `end`, byte by byte; `end` if there is none.
+pub fn scan_byte(text: &[u8], x: u8, from: usize, end: usize) -> usize
     requires { ⌜ (from ≤ end) × (end ≤ length (now text)) ⌝ }
     ensures { λ r. ⌜ (r ≡ from + run (isNot x) (stretch (now (text .entry)) from (end - from))) × (r ≤ end) ⌝ }
 {
@@ -45,6 +48,31 @@ pub fn find_byte(text: &[u8], x: u8, from: usize, end: usize) -> usize
         i += 1;
     }
     i
+}
+
+// The same where it is mostly far, as the end of a line is: eight bytes at a time.
+pub fn find_far_byte(text: &[u8], x: u8, from: usize, end: usize) -> usize
+    requires { ⌜ (from ≤ end) × (end ≤ length (now text)) ⌝ }
+    ensures { λ r. ⌜ (r ≡ from + run (isNot x) (stretch (now (text .entry)) from (end - from))) × (r ≤ end) ⌝ }
+{
+    let b = wide(x);
+    if 128 <= b {
+        return scan_byte(text, x, from, end);
+    }
+    find_between(text, b, b, from, end)
+}
+
+// The same where it is mostly near, as the end of a word is: eight bytes one by one, then as above.
+pub fn find_byte(text: &[u8], x: u8, from: usize, end: usize) -> usize
+    requires { ⌜ (from ≤ end) × (end ≤ length (now text)) ⌝ }
+    ensures { λ r. ⌜ (r ≡ from + run (isNot x) (stretch (now (text .entry)) from (end - from))) × (r ≤ end) ⌝ }
+{
+    let near = from + least(end - from, 8);
+    let i = scan_byte(text, x, from, near);
+    if i < near {
+        return i;
+    }
+    find_far_byte(text, x, near, end)
 }
 
 pub fn to_ascii_uppercase(b: u8) -> u8

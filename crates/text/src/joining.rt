@@ -10,7 +10,7 @@ ghost use Rattle.text.specs.Joining.{continued, part, joinedText, Joins}
 ghost use Rattle.text.specs.Writing.{added, still, addedBy, stillBy, Puts};
 use crate::blanks::trim_end;
 use crate::bytes::clear_bytes;
-use crate::bytes::find_byte;
+use crate::bytes::find_far_byte;
 use crate::lines::kept_line;
 
 // Whether a stretch ends in `\`.
@@ -138,7 +138,7 @@ pub fn put_lines(text: &[u8], joined: &mut [u8]) -> usize
     let mut out = 0;
     let mut gathered = false;
     while at < size {
-        let end = find_byte(text, 10, at, size);
+        let end = find_far_byte(text, 10, at, size);
         let p = put_raw(text, at, end, joined, out, gathered);
         out = p.out;
         gathered = p.gathered;

@@ -4,7 +4,7 @@ ghost use Prim.Native.Nat.{_+_, _-_, _≤_};
 ghost use lib.ListN.{length};
 ghost use Rattle.laws.specs.Stretches.{stretch};
 ghost use Rattle.text.specs.Lines.{kept, NextLine};
-use crate::bytes::find_byte;
+use crate::bytes::find_far_byte;
 use crate::words::Word;
 use crate::words::trim;
 
@@ -20,7 +20,7 @@ pub fn kept_line(text: &[u8], from: usize, end: usize) -> Word
     requires { ⌜ (from ≤ end) × (end ≤ length (now text)) ⌝ }
     ensures { λ r. ⌜ (stretch (now (text .entry)) (r .start) (r .len) ≡ kept (stretch (now (text .entry)) from (end - from))) × (r .start + r .len ≤ end) ⌝ }
 {
-    let cut = find_byte(text, 35, from, end);
+    let cut = find_far_byte(text, 35, from, end);
     trim(text, from, cut)
 }
 
@@ -32,7 +32,7 @@ pub fn next_line(text: &[u8], from: usize) -> Line
     let size = text.len();
     let mut at = from;
     while at < size {
-        let end = find_byte(text, 10, at, size);
+        let end = find_far_byte(text, 10, at, size);
         let w = kept_line(text, at, end);
         if w.len != 0 {
             return Line {

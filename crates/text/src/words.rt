@@ -6,6 +6,7 @@ ghost use Rattle.laws.specs.Stretches.{stretch};
 ghost use Rattle.text.specs.Blanks.{trimmed};
 ghost use Rattle.text.specs.Words.{words, nextWord};
 use crate::blanks::find_blank;
+use crate::blanks::scan_blank;
 use crate::blanks::skip_blanks;
 use crate::blanks::trim_end;
 
@@ -17,6 +18,19 @@ pub struct Word {
 
 // The next word between two places; of length 0 if there is none.
 pub fn next_word(text: &[u8], from: usize, end: usize) -> Word
+    requires { ⌜ (from ≤ end) × (end ≤ length (now text)) ⌝ }
+    ensures { λ r. ⌜ (r ≡ nextWord (now (text .entry)) from end) × (r .start + r .len ≤ end) ⌝ }
+{
+    let s = skip_blanks(text, from, end);
+    let e = scan_blank(text, s, end);
+    Word {
+        start: s,
+        len: e - s,
+    }
+}
+
+// The same where words may be long, as names may.
+pub fn next_name(text: &[u8], from: usize, end: usize) -> Word
     requires { ⌜ (from ≤ end) × (end ≤ length (now text)) ⌝ }
     ensures { λ r. ⌜ (r ≡ nextWord (now (text .entry)) from end) × (r .start + r .len ≤ end) ⌝ }
 {

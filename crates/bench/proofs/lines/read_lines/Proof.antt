@@ -25,11 +25,11 @@ loop-holds c =
     let a = c .before .before .before .before .args in
     (refl, refl, refl, refl, c .before .before .before .before .pre .0, c .before .before .before .before .pre .1, lines-begin (a .text .now) (placesIn (length (a .nodes .now)) (length (a .names .now)) (length (a .outputs .now))) (a .nodes .now) (a .names .now) (a .outputs .now) _ refl)
 
-find-byte-requires : tie.Need-find-byte-requires Inv-loop μ-loop
-find-byte-requires c κs = omega arith
+find-far-byte-requires : tie.Need-find-far-byte-requires Inv-loop μ-loop
+find-far-byte-requires c κs = omega arith
 
 read-line-requires : tie.Need-read-line-requires Inv-loop μ-loop
-read-line-requires c κs = (c .before .before .before .before .before .before .loop .inv .4, (c .before .before .before .before .before .before .loop .inv .5, omega (arith, c .before .before .before .before .find-byte .ensures, c .before .before .before .before .before .loop-test .taken, c .before .before .before .before .before .before .loop .inv .0)))
+read-line-requires c κs = (c .before .before .before .before .before .before .loop .inv .4, (c .before .before .before .before .before .before .loop .inv .5, omega (arith, c .before .before .before .before .find-far-byte .ensures, c .before .before .before .before .before .loop-test .taken, c .before .before .before .before .before .before .loop .inv .0)))
 
 enum-told : tie.Need-enum-told Inv-loop μ-loop
 enum-told c = search needs
@@ -47,7 +47,7 @@ returns : tie.Need-returns Inv-loop μ-loop
 returns c =
     let a = c .before .before .before .before .before .before .before .before .before .before .before .before .before .before .before .before .before .before .before .before .args in
     let l = c .before .before .before .before .before .before .before .before .before .before .before .before .before .before .before .loop in
-    let e = c .before .before .before .before .before .before .before .before .before .before .before .before .before .find-byte in
+    let e = c .before .before .before .before .before .before .before .before .before .before .before .before .before .find-far-byte in
     let d = c .before .before .before .before .before .before .before .before .read-line in
     (d .ensures .0, (d .ensures .1 .0, lines-stop (a .text .now) (placesIn (length (a .nodes .now)) (length (a .names .now)) (length (a .outputs .now))) (l .at) (length (a .text .now)) (e .result) (c .before .before .before .before .before .before .before .before .before .before .before .before .before .before .loop-test .taken) (omega arith) (e .ensures .0) (stateOf (l .nodes) (l .names) (l .outputs) (l .counts) (l .n)) (d .result .fault) (stateOf (d .last .1 .1 .1 .1 .1 .1 .0) (d .last .1 .1 .1 .1 .1 .1 .1 .0) (d .last .1 .1 .1 .1 .1 .1 .1 .1 .0) (d .result .counts) (d .result .outputs)) (rw (l .inv .1, l .inv .2, l .inv .3) at (d .ensures .1 .1)) _ (c .enum-told .given .1) ∙ l .inv .6))
 
@@ -55,16 +55,16 @@ enum-told-2 : tie.Need-enum-told-2 Inv-loop μ-loop
 enum-told-2 c = search needs
 
 add-at : tie.Need-add-at Inv-loop μ-loop
-add-at c = omega (arith, c .before .before .before .before .before .before .before .before .before .before .before .before .before .before .find-byte .ensures .1, c .before .before .before .before .before .before .before .before .before .before .before .before .before .before .before .before .loop .inv .0, c .before .before .before .before .before .before .before .before .before .before .before .before .before .before .before .before .before .before .before .before .before .good)
+add-at c = omega (arith, c .before .before .before .before .before .before .before .before .before .before .before .before .before .before .find-far-byte .ensures .1, c .before .before .before .before .before .before .before .before .before .before .before .before .before .before .before .before .loop .inv .0, c .before .before .before .before .before .before .before .before .before .before .before .before .before .before .before .before .before .before .before .before .before .good)
 
 loop-less : tie.Need-loop-less Inv-loop μ-loop
-loop-less c = omega (arith, c .before .before .before .before .before .before .before .before .before .before .before .before .before .before .find-byte .ensures, c .before .before .before .before .before .before .before .before .before .before .before .before .before .before .before .loop-test .taken)
+loop-less c = omega (arith, c .before .before .before .before .before .before .before .before .before .before .before .before .before .before .find-far-byte .ensures, c .before .before .before .before .before .before .before .before .before .before .before .before .before .before .before .loop-test .taken)
 
 loop-again : tie.Need-loop-again Inv-loop μ-loop
 loop-again c =
     let a = c .before .before .before .before .before .before .before .before .before .before .before .before .before .before .before .before .before .before .before .before .before .args in
     let l = c .before .before .before .before .before .before .before .before .before .before .before .before .before .before .before .before .loop in
-    let e = c .before .before .before .before .before .before .before .before .before .before .before .before .before .before .find-byte in
+    let e = c .before .before .before .before .before .before .before .before .before .before .before .before .before .before .find-far-byte in
     let d = c .before .before .before .before .before .before .before .before .before .read-line in (
       l .inv .0,
       d .kept .1 .1 .1 .1 .1 .1 .0 ∙ l .inv .1,
@@ -97,7 +97,7 @@ read-lines-spec =
     Inv-loop
     μ-loop
     loop-holds
-    find-byte-requires
+    find-far-byte-requires
     read-line-requires
     enum-told
     same-length

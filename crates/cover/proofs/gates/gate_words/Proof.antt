@@ -20,14 +20,14 @@ abbrev μ-loop : tie.MeasureT-loop
 loop-holds : tie.Need-loop-holds Inv-loop μ-loop
 loop-holds c = (omega arith, omega arith, omega arith, record { first = omega arith; second = omega arith; last = omega arith }, refl)
 
-next-word-requires : tie.Need-next-word-requires Inv-loop μ-loop
-next-word-requires c κs = omega arith
+next-name-requires : tie.Need-next-name-requires Inv-loop μ-loop
+next-name-requires c κs = omega arith
 
 returns : tie.Need-returns Inv-loop μ-loop
 returns c =
     let a = c .before .before .before .before .before .args in
     let l = c .before .before .before .loop in
-    let w = c .before .next-word in
+    let w = c .before .next-name in
     record { is = gate-end (a .text .now) (l .at) (a .end) (l .g) (w .result) (w .ensures .0) (c .if1 .taken) ∙ l .inv .4; inside = l .inv .3 }
 
 note-word-requires : tie.Need-note-word-requires Inv-loop μ-loop
@@ -40,7 +40,7 @@ loop-less : tie.Need-loop-less Inv-loop μ-loop
 loop-less c =
     let a = c .before .before .before .before .before .before .args in
     let l = c .before .before .before .before .loop in
-    let w = c .before .before .next-word in
+    let w = c .before .before .next-name in
     let f : l .at ≤ w .result .start = word-after (a .text .now) (l .at) (a .end) (w .result) (w .ensures .0) in
     omega (arith, w .ensures .1, c .before .if1 .left)
 
@@ -48,7 +48,7 @@ loop-again : tie.Need-loop-again Inv-loop μ-loop
 loop-again c =
     let a = c .before .before .before .before .before .before .args in
     let l = c .before .before .before .before .loop in
-    let w = c .before .before .next-word in
+    let w = c .before .before .next-name in
     let n = c .note-word in
     let f : l .at ≤ w .result .start = word-after (a .text .now) (l .at) (a .end) (w .result) (w .ensures .0) in (
       omega arith,
@@ -71,7 +71,7 @@ gate-words-spec =
     Inv-loop
     μ-loop
     loop-holds
-    next-word-requires
+    next-name-requires
     returns
     note-word-requires
     add-at

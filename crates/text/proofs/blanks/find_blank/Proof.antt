@@ -1,65 +1,43 @@
--- `find_blank`: what is left has as many bytes before its first blank as there were, less those passed.
+-- `find_blank`: in two parts.
 -- Assumes nothing.
-use Prim.Native.Nat.{_+_, _-_, _≤_}
-use mathlib.Core.Path.{_≡_, refl, sym, ap, _∙_}
-use mathlib.Core.Bool.{not}
+use Prim.Native.Nat.{_+_, _-_}
+use mathlib.Core.Path.{_≡_, _∙_}
 use native.Mathlib.Omega.{arith}
-use Rattle.laws.specs.Stretches.{stretch, run}
 use Rattle.text.specs.Blanks.{notBlank}
-use Rattle.laws.proofs.Stretches.{run-on, run-stop, run-end}
+use Rattle.text.proofs.RunLaws.{stop-near, pass-near}
+use borrow.Author.Needs.{needs}
 use Rattle.text.proofs.blanks.find_blank.Statement.{statement}
 use Rattle.text.proofs.blanks.find_blank.Tie as tie
 
-abbrev Inv-loop : tie.InvT-loop
-Inv-loop text from end i₀ i = (from ≤ i) × (i ≤ end) × (i + run notBlank (stretch text i (end - i)) ≡ from + run notBlank (stretch text from (end - from)))
+sub-least : tie.Need-sub-least
+sub-least c = search needs
 
-abbrev μ-loop : tie.MeasureT-loop
-μ-loop text from end i₀ i = end - i
+least-requires : tie.Need-least-requires
+least-requires c κs = search needs
 
-loop-holds : tie.Need-loop-holds Inv-loop μ-loop
-loop-holds c = (omega arith, omega arith, refl)
+add-near : tie.Need-add-near
+add-near c = search needs
 
-shared-slice-read-is-blank : tie.Need-shared-slice-read-is-blank Inv-loop μ-loop
-shared-slice-read-is-blank c = omega arith
+scan-blank-requires : tie.Need-scan-blank-requires
+scan-blank-requires c κs = search needs
 
-is-blank-requires : tie.Need-is-blank-requires Inv-loop μ-loop
-is-blank-requires c κs = tt
+returns : tie.Need-returns
+returns c = (stop-near notBlank (c .before .before .before .before .args .text .now) (c .before .before .before .before .args .from) (c .before .before .before .before .args .from + c .before .before .least .result) (c .before .before .before .before .args .end) (omega arith) (omega (arith, c .before .before .least .ensures, c .before .before .before .before .pre .0)) (c .before .scan-blank .result) (c .before .scan-blank .ensures .0) (c .if1 .taken), omega (arith, c .before .before .least .ensures, c .before .before .before .before .pre .0, c .before .scan-blank .ensures .1))
 
-returns : tie.Need-returns Inv-loop μ-loop
-returns c =
-    let a = c .before .before .before .before .before .before .args in
-    let l = c .before .before .before .before .loop in
-    (run-stop notBlank (a .text .now) (l .i) (a .end) (omega arith) (omega arith) (ap not (sym (c .before .is-blank .ensures) ∙ c .if1 .taken)) ∙ l .inv .2, l .inv .1)
+find-far-blank-requires : tie.Need-find-far-blank-requires
+find-far-blank-requires c κs = search needs
 
-add-i : tie.Need-add-i Inv-loop μ-loop
-add-i c = omega arith
-
-loop-less : tie.Need-loop-less Inv-loop μ-loop
-loop-less c = omega arith
-
-loop-again : tie.Need-loop-again Inv-loop μ-loop
-loop-again c =
-    let a = c .before .before .before .before .before .before .args in
-    let l = c .before .before .before .before .loop in
-    (omega arith, omega arith, run-on notBlank (a .text .now) (l .i) (a .end) (omega arith) (omega arith) (ap not (sym (c .before .is-blank .ensures) ∙ c .if1 .left)) ∙ l .inv .2)
-
-returns-2 : tie.Need-returns-2 Inv-loop μ-loop
-returns-2 c =
-    let a = c .before .before .before .args in
-    let l = c .before .loop in
-    (run-end notBlank (a .text .now) (l .i) (a .end) (c .loop-test .left) ∙ l .inv .2, l .inv .1)
+returns-2 : tie.Need-returns-2
+returns-2 c = (c .find-far-blank .ensures .0 ∙ pass-near notBlank (c .before .before .before .before .before .args .text .now) (c .before .before .before .before .before .args .from) (c .before .before .before .before .before .args .from + c .before .before .before .least .result) (c .before .before .before .before .before .args .end) (omega arith) (omega (arith, c .before .before .before .least .ensures, c .before .before .before .before .before .pre .0)) (c .before .before .scan-blank .result) (c .before .before .scan-blank .ensures .0) (c .before .if1 .left), c .find-far-blank .ensures .1)
 
 pub find-blank-spec : {M : Type 1} → statement M
 find-blank-spec =
     tie.close
     (tie.spec
-    Inv-loop
-    μ-loop
-    loop-holds
-    shared-slice-read-is-blank
-    is-blank-requires
+    sub-least
+    least-requires
+    add-near
+    scan-blank-requires
     returns
-    add-i
-    loop-less
-    loop-again
+    find-far-blank-requires
     returns-2)

@@ -1,61 +1,43 @@
--- `find_byte`: what is left has as many bytes before the first `x` as there were, less those passed.
+-- `find_byte`: in two parts.
 -- Assumes nothing.
-use Prim.Native.Nat.{_+_, _-_, _≤_}
-use mathlib.Core.Path.{_≡_, refl, ap, _∙_}
-use mathlib.Core.Bool.{not}
+use Prim.Native.Nat.{_+_, _-_}
+use mathlib.Core.Path.{_≡_, _∙_}
 use native.Mathlib.Omega.{arith}
-use borrow.Author.Tests.{eq-eqb, ne-eqb}
-use Rattle.laws.specs.Stretches.{stretch, run, isNot}
-use Rattle.laws.proofs.Stretches.{run-on, run-stop, run-end}
+use Rattle.laws.specs.Stretches.{isNot}
+use Rattle.text.proofs.RunLaws.{stop-near, pass-near}
+use borrow.Author.Needs.{needs}
 use Rattle.text.proofs.bytes.find_byte.Statement.{statement}
 use Rattle.text.proofs.bytes.find_byte.Tie as tie
 
-abbrev Inv-loop : tie.InvT-loop
-Inv-loop text x from end i₀ i = (from ≤ i) × (i ≤ end) × (i + run (isNot x) (stretch text i (end - i)) ≡ from + run (isNot x) (stretch text from (end - from)))
+sub-least : tie.Need-sub-least
+sub-least c = search needs
 
-abbrev μ-loop : tie.MeasureT-loop
-μ-loop text x from end i₀ i = end - i
+least-requires : tie.Need-least-requires
+least-requires c κs = search needs
 
-loop-holds : tie.Need-loop-holds Inv-loop μ-loop
-loop-holds c = (omega arith, omega arith, refl)
+add-near : tie.Need-add-near
+add-near c = search needs
 
-shared-slice-read-if1 : tie.Need-shared-slice-read-if1 Inv-loop μ-loop
-shared-slice-read-if1 c = omega arith
+scan-byte-requires : tie.Need-scan-byte-requires
+scan-byte-requires c κs = search needs
 
-returns : tie.Need-returns Inv-loop μ-loop
-returns c =
-    let a = c .before .before .before .before .args in
-    let l = c .before .before .before .loop in
-    (run-stop (isNot (a .x)) (a .text .now) (l .i) (a .end) (omega arith) (omega arith) (ap not (eq-eqb _ _ (c .if1 .taken))) ∙ l .inv .2, l .inv .1)
+returns : tie.Need-returns
+returns c = (stop-near (isNot (c .before .before .before .before .args .x)) (c .before .before .before .before .args .text .now) (c .before .before .before .before .args .from) (c .before .before .before .before .args .from + c .before .before .least .result) (c .before .before .before .before .args .end) (omega arith) (omega (arith, c .before .before .least .ensures, c .before .before .before .before .pre .0)) (c .before .scan-byte .result) (c .before .scan-byte .ensures .0) (c .if1 .taken), omega (arith, c .before .before .least .ensures, c .before .before .before .before .pre .0, c .before .scan-byte .ensures .1))
 
-add-i : tie.Need-add-i Inv-loop μ-loop
-add-i c = omega arith
+find-far-byte-requires : tie.Need-find-far-byte-requires
+find-far-byte-requires c κs = search needs
 
-loop-less : tie.Need-loop-less Inv-loop μ-loop
-loop-less c = omega arith
-
-loop-again : tie.Need-loop-again Inv-loop μ-loop
-loop-again c =
-    let a = c .before .before .before .before .args in
-    let l = c .before .before .before .loop in
-    (omega arith, omega arith, run-on (isNot (a .x)) (a .text .now) (l .i) (a .end) (omega arith) (omega arith) (ap not (ne-eqb _ _ (c .if1 .left))) ∙ l .inv .2)
-
-returns-2 : tie.Need-returns-2 Inv-loop μ-loop
-returns-2 c =
-    let a = c .before .before .args in
-    let l = c .before .loop in
-    (run-end (isNot (a .x)) (a .text .now) (l .i) (a .end) (c .loop-test .left) ∙ l .inv .2, l .inv .1)
+returns-2 : tie.Need-returns-2
+returns-2 c = (c .find-far-byte .ensures .0 ∙ pass-near (isNot (c .before .before .before .before .before .args .x)) (c .before .before .before .before .before .args .text .now) (c .before .before .before .before .before .args .from) (c .before .before .before .before .before .args .from + c .before .before .before .least .result) (c .before .before .before .before .before .args .end) (omega arith) (omega (arith, c .before .before .before .least .ensures, c .before .before .before .before .before .pre .0)) (c .before .before .scan-byte .result) (c .before .before .scan-byte .ensures .0) (c .before .if1 .left), c .find-far-byte .ensures .1)
 
 pub find-byte-spec : {M : Type 1} → statement M
 find-byte-spec =
     tie.close
     (tie.spec
-    Inv-loop
-    μ-loop
-    loop-holds
-    shared-slice-read-if1
+    sub-least
+    least-requires
+    add-near
+    scan-byte-requires
     returns
-    add-i
-    loop-less
-    loop-again
+    find-far-byte-requires
     returns-2)

@@ -25,15 +25,15 @@ abbrev μ-loop : tie.MeasureT-loop
 loop-holds : tie.Need-loop-holds Inv-loop μ-loop
 loop-holds c = (omega arith, refl, omega arith, left-start (c .before .before .args .text .now))
 
-find-byte-requires : tie.Need-find-byte-requires Inv-loop μ-loop
-find-byte-requires c κs = omega arith
+find-far-byte-requires : tie.Need-find-far-byte-requires Inv-loop μ-loop
+find-far-byte-requires c κs = omega arith
 
 put-raw-requires : tie.Need-put-raw-requires Inv-loop μ-loop
 put-raw-requires c κs =
     let s = c .before .before .before .before .before .before in
     let a = s .args in
     let l = c .before .before .before .loop in
-    let f = c .before .find-byte in
+    let f = c .before .find-far-byte in
     let n : length (a .text .now) + 1 ≤ length (l .joined) = omega (arith, s .pre, l .inv .1) in (
       (omega (arith, f .ensures .0), f .ensures .1),
       turn-room (a .text .now) (l .joined) (l .at) (l .out) (l .gathered) (l .inv .2) (l .inv .3) (f .result) (length (l .joined)) (omega arith) n (f .ensures .0),
@@ -50,7 +50,7 @@ loop-again c =
     let s = c .before .before .before .before .before .before .before .before .before in
     let a = s .args in
     let l = c .before .before .before .before .before .before .loop in
-    let f = c .before .before .before .before .find-byte in
+    let f = c .before .before .before .before .find-far-byte in
     let p = c .before .before .put-raw in
     let n : length (a .text .now) + 1 ≤ length (l .joined) = omega (arith, s .pre, l .inv .1) in
     let i : l .at < length (a .text .now) = omega (arith, c .before .before .before .before .before .loop-test .taken) in
@@ -89,7 +89,7 @@ put-lines-spec =
     Inv-loop
     μ-loop
     loop-holds
-    find-byte-requires
+    find-far-byte-requires
     put-raw-requires
     add-at
     loop-less

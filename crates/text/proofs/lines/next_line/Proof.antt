@@ -19,8 +19,8 @@ abbrev μ-loop : tie.MeasureT-loop
 loop-holds : tie.Need-loop-holds Inv-loop μ-loop
 loop-holds c = (omega arith, omega arith, refl, refl)
 
-find-byte-requires : tie.Need-find-byte-requires Inv-loop μ-loop
-find-byte-requires c κs = (omega arith, omega arith)
+find-far-byte-requires : tie.Need-find-far-byte-requires Inv-loop μ-loop
+find-far-byte-requires c κs = (omega arith, omega arith)
 
 kept-line-requires : tie.Need-kept-line-requires Inv-loop μ-loop
 kept-line-requires c κs = (omega arith, omega arith)
@@ -32,7 +32,7 @@ returns : tie.Need-returns Inv-loop μ-loop
 returns c =
     let a = c .before .before .before .before .before .before .before .args in
     let l = c .before .before .before .before .before .loop in
-    let f = c .before .before .before .find-byte in
+    let f = c .before .before .before .find-far-byte in
     let k = c .before .before .kept-line in
     record {
       within = omega arith;
@@ -52,7 +52,7 @@ loop-again : tie.Need-loop-again Inv-loop μ-loop
 loop-again c =
     let a = c .before .before .before .before .before .before .before .args in
     let l = c .before .before .before .before .before .loop in
-    let f = c .before .before .before .find-byte in
+    let f = c .before .before .before .find-far-byte in
     let k = c .before .before .kept-line in
     (omega arith, omega arith, refl, sym (line-none (a .text .now) (l .at) (length (a .text .now)) (f .result) (k .result .start) (k .result .len) refl (omega arith) (f .ensures .0) (k .ensures .0) (omega arith) (omega arith) (c .if1 .left)) ∙ l .inv .3)
 
@@ -74,7 +74,7 @@ next-line-spec =
     Inv-loop
     μ-loop
     loop-holds
-    find-byte-requires
+    find-far-byte-requires
     kept-line-requires
     add-t8
     returns
