@@ -1,21 +1,16 @@
 -- One record more keeps the table in order.
 -- Assumes nothing.
-use Prim.Native.Nat.{ℕ, zero, suc, _+_, _-_, _*_, _/_, _%_, _^_, _≤_, _<_}
-use mathlib.Core.Path.{_≡_, refl, sym, ap, ap₂, _∙_}
-use mathlib.Core.Logic.{_⊎_, inl, inr, ⊎-elim}
+use Prim.Native.Nat.{ℕ, zero, suc, _+_, _-_, _≤_, _<_}
+use mathlib.Core.Path.{_≡_, refl, sym, ap, _∙_}
 use mathlib.Core.Bool.{Bool, true, false, cond, true≢false}
-use mathlib.Core.List.{List, _∷_}
+use mathlib.Core.List.{List}
 use native.Mathlib.Omega.{arith}
-use native.Mathlib.Nat.{le-refl}
-use lib.ListN.{length, getD}
+use lib.ListN.{getD}
 use lib.Dec.{ltb}
 use borrow.Author.Tests.{ltb-true, ltb-false}
-use Rattle.laws.specs.Stretches.{stretch}
-use Rattle.laws.proofs.Tests.{false-of}
-use Rattle.names.specs.Names.{nameOf}
-use Rattle.names.specs.Chains.{bucketOf, trailOf, entry, entries, bucketAt, trailAt, agrees, first, firstAfter, reached, linkOf, linkUnit, Table, Behind, EndsAt}
+use Rattle.names.specs.Chains.{entry, entries, bucketAt, trailAt, prefixOf, digitAt, agrees, firstAfter, reached, Behind}
 use Rattle.names.proofs.First.{first-same, after-same}
-use Rattle.names.proofs.Trails.{fewer-bits, same-bit, more-bits, agrees-means, agrees-makes, reached-at, reached-in, reached-same, reached-earlier, reached-kept, reached-first, reached-next, reached-last, reached-old}
+use Rattle.names.proofs.Trails.{digit-small, fewer-digits, same-digit, more-digits, agrees-means, agrees-makes, reached-at, reached-in, reached-same, reached-earlier, reached-kept, reached-first, reached-next, reached-last, reached-old}
 
 -- ---- two areas that agree on the first n records but for their links
 
@@ -39,7 +34,7 @@ module _ (text names after : List ℕ) (n : ℕ) (old : (k : ℕ) → k < n → 
 -- ---- where the search for the new record's name ended, and nowhere else, the new record comes
 
 -- the area `after` holds a new record, of bucket c and trail g; before it, a search for its name ended at depth e, behind a head or a link
-module _ (text after : List ℕ) (count c g last bit : ℕ) (bucket-is : bucketAt text after count ≡ c) (trail-is : trailAt text after count ≡ g) where
+module _ (text after : List ℕ) (count c g last digit : ℕ) (bucket-is : bucketAt text after count ≡ c) (trail-is : trailAt text after count ≡ g) where
   -- what a search came to without the new record, and what it comes to with it
   abbrev at : ℕ → ℕ → ℕ → ℕ
   at b h d = reached text after count b h d
@@ -47,16 +42,17 @@ module _ (text after : List ℕ) (count c g last bit : ℕ) (bucket-is : bucketA
   abbrev next : ℕ → ℕ → ℕ → ℕ
   next b h d = reached text after (suc count) b h d
 
-  agrees-new : (b h d : ℕ) → c ≡ b → g % 2 ^ d ≡ h % 2 ^ d → agrees text after b h d count ≡ true
-  agrees-new b h d p q = agrees-makes text after b h d count (bucket-is ∙ p) (ap (λ (x : ℕ). x % 2 ^ d) trail-is ∙ q)
+  agrees-new : (b h d : ℕ) → c ≡ b → prefixOf g d ≡ prefixOf h d → agrees text after b h d count ≡ true
+  agrees-new b h d p q = agrees-makes text after b h d count (bucket-is ∙ p) (ap (λ (x : ℕ). prefixOf x d) trail-is ∙ q)
 
-  agrees-then : (b h d : ℕ) → agrees text after b h d count ≡ true → (c ≡ b) × (g % 2 ^ d ≡ h % 2 ^ d)
+  agrees-then : (b h d : ℕ) → agrees text after b h d count ≡ true → (c ≡ b) × (prefixOf g d ≡ prefixOf h d)
   agrees-then b h d e =
       let m = agrees-means text after b h d count e in
-      (sym bucket-is ∙ m .0, ap (λ (x : ℕ). x % 2 ^ d) (sym trail-is) ∙ m .1)
+      (sym bucket-is ∙ m .0, ap (λ (x : ℕ). prefixOf x d) (sym trail-is) ∙ m .1)
 
-  no-bits : (x y : ℕ) → x % 2 ^ 0 ≡ y % 2 ^ 0
-  no-bits x y = omega arith
+  no-digits : (x y : ℕ) → prefixOf x 0 ≡ prefixOf y 0
+  unfolding prefixOf
+  no-digits x y = refl
 
   -- a search comes to nothing after its end
   none-after : (h d n : ℕ) → at c h d ≡ 0 → (k : ℕ) → at c h (n + d) ≡ suc k → ⊥
@@ -87,7 +83,7 @@ module _ (text after : List ℕ) (count c g last bit : ℕ) (bucket-is : bucketA
       let f = reached-earlier text after count c h d (e - suc d) k (ap (at c h) (sym r) ∙ q) in
       omega (arith, f .1, f .2, p)
 
-  same-place : (h d e k : ℕ) → at c h d ≡ suc k → at c g e ≡ suc k → (d ≡ e) × (h % 2 ^ d ≡ g % 2 ^ d)
+  same-place : (h d e k : ℕ) → at c h d ≡ suc k → at c g e ≡ suc k → (d ≡ e) × (prefixOf h d ≡ prefixOf g d)
   same-place h d e k p q =
       let t = trailAt text after k in
       let m = reached-at text after count c h d k p .2 in
@@ -97,14 +93,14 @@ module _ (text after : List ℕ) (count c g last bit : ℕ) (bucket-is : bucketA
       let one : d < e → ⊥ = λ l. not-again t d e k l u v in
       let two : e < d → ⊥ = λ l. not-again t e d k l v u in
       let s : d ≡ e = omega (arith, one, two) in
-      (s, sym m ∙ ap (λ (x : ℕ). t % 2 ^ x) s ∙ n ∙ ap (λ (x : ℕ). g % 2 ^ x) (sym s))
+      (s, sym m ∙ ap (λ (x : ℕ). prefixOf t x) s ∙ n ∙ ap (λ (x : ℕ). prefixOf g x) (sym s))
 
-  module _ (e : ℕ) (ended : at c g e ≡ 0) (behind : Behind (at c g) g last bit e) where
-    -- behind a record: its depth, and the bit
-    after-record : (k : ℕ) → last ≡ suc k → (d : ℕ) × (at c g d ≡ suc k) × (at c g (suc d) ≡ 0) × (bit ≡ g / 2 ^ d % 2)
+  module _ (e : ℕ) (ended : at c g e ≡ 0) (behind : Behind (at c g) g last digit e) where
+    -- behind a record: its depth, and the digit
+    after-record : (k : ℕ) → last ≡ suc k → (d : ℕ) × (at c g d ≡ suc k) × (at c g (suc d) ≡ 0) × (digit ≡ digitAt g d)
     after-record k q = go e ended behind
       where
-        go : (d : ℕ) → at c g d ≡ 0 → Behind (at c g) g last bit d → (d : ℕ) × (at c g d ≡ suc k) × (at c g (suc d) ≡ 0) × (bit ≡ g / 2 ^ d % 2)
+        go : (d : ℕ) → at c g d ≡ 0 → Behind (at c g) g last digit d → (d : ℕ) × (at c g d ≡ suc k) × (at c g (suc d) ≡ 0) × (digit ≡ digitAt g d)
         go zero z f = absurd (omega (arith, f, q))
         go (suc d) z f = (d, f .0 ∙ q, z, f .2)
 
@@ -112,24 +108,24 @@ module _ (text after : List ℕ) (count c g last bit : ℕ) (bucket-is : bucketA
     after-head : last ≡ 0 → at c g 0 ≡ 0
     after-head q = go e ended behind
       where
-        go : (d : ℕ) → at c g d ≡ 0 → Behind (at c g) g last bit d → at c g 0 ≡ 0
+        go : (d : ℕ) → at c g d ≡ 0 → Behind (at c g) g last digit d → at c g 0 ≡ 0
         go zero z f = z
         go (suc d) z f = absurd (f .1 q)
 
     -- where a search for the new name ends, there is the end
-    end-record : (d k : ℕ) → at c g d ≡ suc k → at c g (suc d) ≡ 0 → (last ≡ suc k) × (bit ≡ g / 2 ^ d % 2)
+    end-record : (d k : ℕ) → at c g d ≡ suc k → at c g (suc d) ≡ 0 → (last ≡ suc k) × (digit ≡ digitAt g d)
     end-record d k p z = go e ended behind
       where
-        step : (d' j : ℕ) → at c g d' ≡ suc j → at c g (suc d') ≡ 0 → last ≡ suc j → bit ≡ g / 2 ^ d' % 2 → (last ≡ suc k) × (bit ≡ g / 2 ^ d % 2)
+        step : (d' j : ℕ) → at c g d' ≡ suc j → at c g (suc d') ≡ 0 → last ≡ suc j → digit ≡ digitAt g d' → (last ≡ suc k) × (digit ≡ digitAt g d)
         step d' j q y l b =
             let s : d' ≡ d = one-end d' d j k q y p z in
-            (l ∙ sym q ∙ ap (at c g) s ∙ p, b ∙ ap (λ (x : ℕ). g / 2 ^ x % 2) s)
+            (l ∙ sym q ∙ ap (at c g) s ∙ p, b ∙ ap (λ (x : ℕ). digitAt g x) s)
 
-        known : (x : ℕ) → last ≡ x → (d' : ℕ) → at c g (suc d') ≡ 0 → at c g d' ≡ last → (last ≡ 0 → ⊥) → bit ≡ g / 2 ^ d' % 2 → (last ≡ suc k) × (bit ≡ g / 2 ^ d % 2)
+        known : (x : ℕ) → last ≡ x → (d' : ℕ) → at c g (suc d') ≡ 0 → at c g d' ≡ last → (last ≡ 0 → ⊥) → digit ≡ digitAt g d' → (last ≡ suc k) × (digit ≡ digitAt g d)
         known zero q d' y f nz b = absurd (nz q)
         known (suc j) q d' y f nz b = step d' j (f ∙ q) y q b
 
-        go : (d' : ℕ) → at c g d' ≡ 0 → Behind (at c g) g last bit d' → (last ≡ suc k) × (bit ≡ g / 2 ^ d % 2)
+        go : (d' : ℕ) → at c g d' ≡ 0 → Behind (at c g) g last digit d' → (last ≡ suc k) × (digit ≡ digitAt g d)
         go zero y f = absurd (none-later g 0 d k (omega arith) y p)
         go (suc d') y f = known last refl d' y (f .0) (f .1) (f .2)
 
@@ -140,7 +136,7 @@ module _ (text after : List ℕ) (count c g last bit : ℕ) (bucket-is : bucketA
         known zero q d f = q
         known (suc j) q d f = absurd (none-later g 0 d j (omega arith) z (f ∙ q))
 
-        go : (d : ℕ) → Behind (at c g) g last bit d → last ≡ 0
+        go : (d : ℕ) → Behind (at c g) g last digit d → last ≡ 0
         go zero f = f
         go (suc d) f = known last refl d (f .0)
 
@@ -152,13 +148,13 @@ module _ (text after : List ℕ) (count c g last bit : ℕ) (bucket-is : bucketA
       more-heads b h l = go (at b h 0) refl
         where
           here : (x : ℕ) → b ≡ c → at b x 0 ≡ at c g 0
-          here x q = ap (λ (y : ℕ). at y x 0) q ∙ reached-same text after count c x g 0 (no-bits x g)
+          here x q = ap (λ (y : ℕ). at y x 0) q ∙ reached-same text after count c x g 0 (no-digits x g)
 
           fresh : (t : Bool) → agrees text after b h 0 count ≡ t → at b h 0 ≡ 0 → getD heads' b 0 ≡ cond t (suc count) 0
           fresh true a z =
               let q : c ≡ b = agrees-then b h 0 a .0 in
               ap (λ (x : ℕ). getD heads' x 0) (sym q) ∙ new (end-head (sym (here h (sym q)) ∙ z))
-          fresh false a z = same b l (λ p q. absurd (true≢false (sym (agrees-new b h 0 (sym q) (no-bits g h)) ∙ a))) ∙ old b h l ∙ z
+          fresh false a z = same b l (λ p q. absurd (true≢false (sym (agrees-new b h 0 (sym q) (no-digits g h)) ∙ a))) ∙ old b h l ∙ z
 
           go : (x : ℕ) → at b h 0 ≡ x → getD heads' b 0 ≡ next b h 0
           go zero z = fresh (agrees text after b h 0 count) refl z ∙ sym (reached-first text after count b h z)
@@ -167,44 +163,44 @@ module _ (text after : List ℕ) (count c g last bit : ℕ) (bucket-is : bucketA
 
     -- ---- the links
 
-    module _ (link link' : ℕ → ℕ → ℕ) (old : (b h d k : ℕ) → at b h d ≡ suc k → link k (h / 2 ^ d % 2) ≡ at b h (suc d))
-        (same : (k x : ℕ) → k < count → x < 2 → (last ≡ suc k → x ≡ bit → ⊥) → link' k x ≡ link k x) (new : (k : ℕ) → last ≡ suc k → link' k bit ≡ suc count) (none : (x : ℕ) → link' count x ≡ 0) where
-      pub more-links : (b h d k : ℕ) → next b h d ≡ suc k → link' k (h / 2 ^ d % 2) ≡ next b h (suc d)
+    module _ (link link' : ℕ → ℕ → ℕ) (old : (b h d k : ℕ) → at b h d ≡ suc k → link k (digitAt h d) ≡ at b h (suc d))
+        (same : (k x : ℕ) → k < count → x < 6 → (last ≡ suc k → x ≡ digit → ⊥) → link' k x ≡ link k x) (new : (k : ℕ) → last ≡ suc k → link' k digit ≡ suc count) (none : (x : ℕ) → link' count x ≡ 0) where
+      pub more-links : (b h d k : ℕ) → next b h d ≡ suc k → link' k (digitAt h d) ≡ next b h (suc d)
       more-links b h d k p = go (ltb k count) refl
         where
-          small : h / 2 ^ d % 2 < 2
-          small = omega arith
+          small : digitAt h d < 6
+          small = digit-small h d
 
           -- the record was reached and had no next: the new record comes here if it agrees
-          fresh : k < count → at b h d ≡ suc k → at b h (suc d) ≡ 0 → (t : Bool) → agrees text after b h (suc d) count ≡ t → link' k (h / 2 ^ d % 2) ≡ cond t (suc count) 0
+          fresh : k < count → at b h d ≡ suc k → at b h (suc d) ≡ 0 → (t : Bool) → agrees text after b h (suc d) count ≡ t → link' k (digitAt h d) ≡ cond t (suc count) 0
           fresh l o z true a =
               let m = agrees-then b h (suc d) a in
-              let u : at c g d ≡ suc k = reached-same text after count c g h d (fewer-bits d g h (m .1)) ∙ ap (λ (y : ℕ). at y h d) (m .0) ∙ o in
+              let u : at c g d ≡ suc k = reached-same text after count c g h d (fewer-digits d g h (m .1)) ∙ ap (λ (y : ℕ). at y h d) (m .0) ∙ o in
               let v : at c g (suc d) ≡ 0 = reached-same text after count c g h (suc d) (m .1) ∙ ap (λ (y : ℕ). at y h (suc d)) (m .0) ∙ z in
               let r = end-record d k u v in
-              ap (link' k) (sym (same-bit d g h (m .1)) ∙ sym (r .1)) ∙ new k (r .0)
-          fresh l o z false a = same k (h / 2 ^ d % 2) l small (λ q y. elsewhere q y) ∙ old b h d k o ∙ z
+              ap (link' k) (sym (same-digit d g h (m .1)) ∙ sym (r .1)) ∙ new k (r .0)
+          fresh l o z false a = same k (digitAt h d) l small (λ q y. elsewhere q y) ∙ old b h d k o ∙ z
             where
-              elsewhere : last ≡ suc k → h / 2 ^ d % 2 ≡ bit → ⊥
+              elsewhere : last ≡ suc k → digitAt h d ≡ digit → ⊥
               elsewhere q y =
                   let r = after-record k q in
                   let s : b ≡ c = sym (reached-at text after count b h d k o .1) ∙ reached-at text after count c g (r .0) k (r .1) .1 in
                   let t = same-place h d (r .0) k (ap (λ (y : ℕ). at y h d) (sym s) ∙ o) (r .1) in
-                  let bits : g / 2 ^ d % 2 ≡ h / 2 ^ d % 2 = ap (λ (n : ℕ). g / 2 ^ n % 2) (t .0) ∙ sym (r .3) ∙ sym y in
-                  true≢false (sym (agrees-new b h (suc d) (sym s) (more-bits d g h (sym (t .1)) bits)) ∙ a)
+                  let digits : digitAt g d ≡ digitAt h d = ap (λ (n : ℕ). digitAt g n) (t .0) ∙ sym (r .3) ∙ sym y in
+                  true≢false (sym (agrees-new b h (suc d) (sym s) (more-digits d g h (sym (t .1)) digits)) ∙ a)
 
-          was : k < count → at b h d ≡ suc k → (y : ℕ) → at b h (suc d) ≡ y → link' k (h / 2 ^ d % 2) ≡ next b h (suc d)
+          was : k < count → at b h d ≡ suc k → (y : ℕ) → at b h (suc d) ≡ y → link' k (digitAt h d) ≡ next b h (suc d)
           was l o zero z = fresh l o z (agrees text after b h (suc d) count) refl ∙ sym (reached-next text after count b h d k o z)
-          was l o (suc j) z = same k (h / 2 ^ d % 2) l small (λ q y. taken q y) ∙ old b h d k o ∙ z ∙ sym (reached-kept text after count b h (suc d) j z)
+          was l o (suc j) z = same k (digitAt h d) l small (λ q y. taken q y) ∙ old b h d k o ∙ z ∙ sym (reached-kept text after count b h (suc d) j z)
             where
-              taken : last ≡ suc k → h / 2 ^ d % 2 ≡ bit → ⊥
+              taken : last ≡ suc k → digitAt h d ≡ digit → ⊥
               taken q y =
                   let r = after-record k q in
-                  let f : link k bit ≡ 0 = ap (link k) (r .3) ∙ old c g (r .0) k (r .1) ∙ r .2 in
+                  let f : link k digit ≡ 0 = ap (link k) (r .3) ∙ old c g (r .0) k (r .1) ∙ r .2 in
                   omega (arith, ap (link k) y, old b h d k o, z, f)
 
-          go : (t : Bool) → ltb k count ≡ t → link' k (h / 2 ^ d % 2) ≡ next b h (suc d)
+          go : (t : Bool) → ltb k count ≡ t → link' k (digitAt h d) ≡ next b h (suc d)
           go true l = let m = ltb-true k count l in was m (reached-old text after count b h d k p m) (at b h (suc d)) refl
           go false l =
               let m : k ≡ count = omega (arith, ltb-false k count l, reached-at text after (suc count) b h d k p .0) in
-              ap (λ (y : ℕ). link' y (h / 2 ^ d % 2)) m ∙ none (h / 2 ^ d % 2) ∙ sym (reached-last text after count b h d (p ∙ ap suc m))
+              ap (λ (y : ℕ). link' y (digitAt h d)) m ∙ none (digitAt h d) ∙ sym (reached-last text after count b h d (p ∙ ap suc m))

@@ -1,12 +1,12 @@
 -- Worked examples of the definitions, by computation: names of the text "abba", whose wires' words are 5, 7, 9.
 -- Assumes nothing.
-use Prim.Native.Nat.{ℕ, _%_}
+use Prim.Native.Nat.{ℕ}
 use lib.ListN.{getD}
 use mathlib.Core.Path.{_≡_, refl}
 use mathlib.Core.List.{List, [], _∷_}
 use Rattle.laws.specs.Stretches.{stretch, sameBytes}
 use Rattle.names.specs.Names.{Entry, lookup}
-use Rattle.names.specs.Chains.{wrappingSum, mixIn, mixedBytes, mixed, bucketOf, trailOf, entry, entries, linkOf, trailIn, bucketAt, trailAt, agrees, first, firstAfter, reached}
+use Rattle.names.specs.Chains.{wrappingSum, wordOf, mixIn, mixed, bucketOf, trailOf, restOf, digitAt, prefixOf, trailIn, entry, entries, linkOf, linkAt, bucketAt, trailAt, agrees, first, firstAfter, reached}
 use Rattle.names.specs.declared.Found.the-variants.{At, Nothing}
 
 abba : List ℕ
@@ -21,37 +21,37 @@ collide = refl
 two : List Entry
 two = record { start = 2; len = 2; wire = 7 } ∷ record { start = 0; len = 2; wire = 5 } ∷ []
 
--- the area that holds these two, the first record linking to the second by the first bit of "ba"
+-- the area that holds these two, the first record linking to the second by the first digit of "ba"
 area : List ℕ
-area = 0 ∷ 2 ∷ 5 ∷ 8555783760841277442 ∷ 2 ∷ 2 ∷ 7 ∷ 4851757785282510848 ∷ 0 ∷ 0 ∷ 0 ∷ 0 ∷ []
+area = 7576387181334233088 ∷ 5 ∷ 4194304 ∷ 0 ∷ 6752575895199809538 ∷ 7 ∷ 0 ∷ 0 ∷ 0 ∷ 0 ∷ 0 ∷ 0 ∷ []
 
 area-holds : entries area 2 ≡ two
 unfolding area two entries entry
 area-holds = refl
 
-first-bit : trailOf (98 ∷ 97 ∷ []) % 2 ≡ 0
-unfolding trailOf mixed mixedBytes mixIn
-first-bit = refl
+first-digit : digitAt (trailOf (98 ∷ 97 ∷ [])) 0 ≡ 2
+unfolding digitAt restOf trailOf mixed wordOf mixIn
+first-digit = refl
 
-link-is : linkOf (getD area 3 0) 0 ≡ 2
-unfolding area linkOf
+link-is : linkAt area 0 2 ≡ 2
+unfolding area linkAt linkOf
 link-is = refl
 
-trail-is : trailIn (getD area 7 0) ≡ trailOf (98 ∷ 97 ∷ [])
-unfolding area trailIn trailOf mixed mixedBytes mixIn
+trail-is : trailIn (getD area 4 0) ≡ trailOf (98 ∷ 97 ∷ [])
+unfolding area trailOf mixed wordOf mixIn
 trail-is = refl
 
 -- the search for "ba" comes to the first record, then to the second
 head-is : reached abba area 2 (bucketOf (98 ∷ 97 ∷ [])) (trailOf (98 ∷ 97 ∷ [])) 0 ≡ 1
-unfolding abba area reached first agrees bucketAt trailAt entry bucketOf wrappingSum trailOf mixed mixedBytes mixIn stretch
+unfolding abba area reached first agrees prefixOf digitAt restOf bucketAt trailAt entry bucketOf wrappingSum trailOf mixed wordOf mixIn stretch
 head-is = refl
 
 next-is : reached abba area 2 (bucketOf (98 ∷ 97 ∷ [])) (trailOf (98 ∷ 97 ∷ [])) 1 ≡ 2
-unfolding abba area reached first firstAfter agrees bucketAt trailAt entry bucketOf wrappingSum trailOf mixed mixedBytes mixIn stretch
+unfolding abba area reached first firstAfter agrees prefixOf digitAt restOf bucketAt trailAt entry bucketOf wrappingSum trailOf mixed wordOf mixIn stretch
 next-is = refl
 
 end-is : reached abba area 2 (bucketOf (98 ∷ 97 ∷ [])) (trailOf (98 ∷ 97 ∷ [])) 2 ≡ 0
-unfolding abba area reached first firstAfter agrees bucketAt trailAt entry bucketOf wrappingSum trailOf mixed mixedBytes mixIn stretch
+unfolding abba area reached first firstAfter agrees prefixOf digitAt restOf bucketAt trailAt entry bucketOf wrappingSum trailOf mixed wordOf mixIn stretch
 end-is = refl
 
 finds-older : lookup abba (97 ∷ 98 ∷ []) two ≡ At 5

@@ -1,69 +1,74 @@
--- Laws of the sums of a name's bytes: one step further, and at the end.
+-- Laws of the sums of a name's bytes: four bytes further, and at the end.
 -- Assumes nothing.
-use Prim.Native.Nat.{ℕ, zero, suc, _+_, _-_, _*_, _/_, _%_, _^_, _≤_, _<_}
-use mathlib.Core.Path.{_≡_, refl, sym, ap, ap₂, _∙_}
+use Prim.Native.Nat.{ℕ, _+_, _-_, _*_, _/_, _%_, _^_, _≤_, _<_}
+use mathlib.Core.Path.{_≡_, refl, ap, _∙_}
 use mathlib.Core.List.{List, [], _∷_}
 use native.Mathlib.Omega.{arith}
 use lib.ListN.{length, getD}
 use Rattle.laws.specs.Stretches.{stretch}
-use Rattle.laws.proofs.Stretches.{rest-step, rest-end, length-stretch}
-use Rattle.names.specs.Chains.{wrappingSum, mixIn, mixedBytes, mixed}
+use Rattle.names.specs.Chains.{wrappingSum, sumIn, wordOf, mixIn, mixed}
+use Rattle.names.proofs.Words.{Bytes, lowest, fourBytes, four-rest}
 
-pub sum-step : (t : List ℕ) (s n i a b : ℕ) → i < n → s + n ≤ length t → b ≡ (a + getD t (s + i) 0) % 2 ^ 32
-    → wrappingSum b (stretch t (s + (i + 1)) (n - (i + 1))) ≡ wrappingSum a (stretch t (s + i) (n - i))
+twice : (x y : ℕ) → (x % 2 ^ 32 + y) % 2 ^ 32 ≡ (x + y) % 2 ^ 32
+twice x y = omega arith
+
+sums : (s a b c d : ℕ) → (s + (a + b + c + d)) % 2 ^ 32 ≡ ((((s + a) % 2 ^ 32 + b) % 2 ^ 32 + c) % 2 ^ 32 + d) % 2 ^ 32
+sums s a b c d =
+    let e : s + (a + b + c + d) ≡ s + a + b + c + d = omega arith in
+    rw (twice (s + a) b, twice (s + a + b) c, twice (s + a + b + c) d) (ap (λ (x : ℕ). x % 2 ^ 32) e)
+
+-- the four bytes of a number, added at once
+four-sum : (s a b c d : ℕ) → a < 256 → b < 256 → c < 256 → d < 256
+    → sumIn s (a + b * 256 + c * 65536 + d * 16777216) ≡ ((((s + a) % 2 ^ 32 + b) % 2 ^ 32 + c) % 2 ^ 32 + d) % 2 ^ 32
+unfolding sumIn
+four-sum s a b c d p q r t =
+    let u = c + d * 256 in
+    let v = b + u * 256 in
+    let w = a + v * 256 in
+    let is : a + b * 256 + c * 65536 + d * 16777216 ≡ w = omega arith in
+    let k = lowest a v p in
+    let l = lowest b u q in
+    let m = lowest c d r in
+    let two : w / 65536 ≡ u = omega (arith, k .1, l .1) in
+    let three : w / 16777216 ≡ d = omega (arith, two, m .1) in
+    rw (is, two, three, k .0, k .1, l .0, m .0) (sums s a b c d)
+
+pub sum-step : (t : List ℕ) (s n i a b : ℕ) → Bytes t → i < n / 4 → s + n ≤ length t → b ≡ sumIn a (fourBytes t (s + i * 4))
+    → wrappingSum b (stretch t (s + (i + 1) * 4) (n - (i + 1) * 4)) ≡ wrappingSum a (stretch t (s + i * 4) (n - i * 4))
 unfolding wrappingSum
-sum-step t s n i a b h k e = rw (rest-step t s n i h k, e)
+sum-step t s n i a b f h k e =
+    rw (four-rest t s n i h k)
+    (ap (λ (x : ℕ). wrappingSum x (stretch t (s + (i + 1) * 4) (n - (i + 1) * 4)))
+    (e ∙ four-sum a _ _ _ _ (f (s + i * 4)) (f (s + i * 4 + 1)) (f (s + i * 4 + 2)) (f (s + i * 4 + 3))))
 
-pub sum-end : (t : List ℕ) (s n i a : ℕ) → n ≤ i → a ≡ wrappingSum a (stretch t s (n - i))
-unfolding wrappingSum
-sum-end t s n i a h = rw (rest-end t s n i h)
-
-pub byte-step : (t : List ℕ) (s n i a b : ℕ) → i < n → s + n ≤ length t → b ≡ mixIn a (getD t (s + i) 0)
-    → mixedBytes b (stretch t (s + (i + 1)) (n - (i + 1))) ≡ mixedBytes a (stretch t (s + i) (n - i))
-unfolding mixedBytes
-byte-step t s n i a b h k e = rw (rest-step t s n i h k, e)
-
-pub byte-end : (t : List ℕ) (s n i a : ℕ) → n ≤ i → a ≡ mixedBytes a (stretch t s (n - i))
-unfolding mixedBytes
-byte-end t s n i a h = rw (rest-end t s n i h)
-
--- ---- four bytes further
-
-abbrev pub fourBytes : List ℕ → ℕ → ℕ
-fourBytes t p = getD t p 0 + getD t (p + 1) 0 * 256 + getD t (p + 2) 0 * 65536 + getD t (p + 3) 0 * 16777216
-
-four-rest : (t : List ℕ) (s n i : ℕ) → i < n / 4 → s + n ≤ length t
-    → stretch t (s + i * 4) (n - i * 4)
-    ≡ getD t (s + i * 4) 0 ∷ getD t (s + i * 4 + 1) 0 ∷ getD t (s + i * 4 + 2) 0 ∷ getD t (s + i * 4 + 3) 0 ∷ stretch t (s + (i + 1) * 4) (n - (i + 1) * 4)
-four-rest t s n i h k =
-    let one : s + (i * 4 + 1) ≡ s + i * 4 + 1 = omega arith in
-    let two : s + (i * 4 + 1 + 1) ≡ s + i * 4 + 2 = omega arith in
-    let three : s + (i * 4 + 1 + 1 + 1) ≡ s + i * 4 + 3 = omega arith in
-    let four : i * 4 + 1 + 1 + 1 + 1 ≡ (i + 1) * 4 = omega arith in
-    rest-step t s n (i * 4) (omega arith) k
-    ∙ ap (λ (l : List ℕ). getD t (s + i * 4) 0 ∷ l) (
-    rest-step t s n (i * 4 + 1) (omega arith) k
-    ∙ ap₂ _∷_ (ap (λ (x : ℕ). getD t x 0) one) (
-    rest-step t s n (i * 4 + 1 + 1) (omega arith) k
-    ∙ ap₂ _∷_ (ap (λ (x : ℕ). getD t x 0) two) (
-    rest-step t s n (i * 4 + 1 + 1 + 1) (omega arith) k
-    ∙ ap₂ _∷_ (ap (λ (x : ℕ). getD t x 0) three) (ap (λ (x : ℕ). stretch t (s + x) (n - x)) four))))
-
-pub four-step : (t : List ℕ) (s n i a b : ℕ) → i < n / 4 → s + n ≤ length t → b ≡ mixIn a (fourBytes t (s + i * 4))
+pub mix-step : (t : List ℕ) (s n i a b : ℕ) → i < n / 4 → s + n ≤ length t → b ≡ mixIn a (fourBytes t (s + i * 4))
     → mixed b (stretch t (s + (i + 1) * 4) (n - (i + 1) * 4)) ≡ mixed a (stretch t (s + i * 4) (n - i * 4))
-unfolding mixed
-four-step t s n i a b h k e = rw (e) (sym (ap (mixed a) (four-rest t s n i h k)))
+unfolding mixed wordOf
+mix-step t s n i a b h k e =
+    let p = s + i * 4 in
+    let w : fourBytes t p ≡ getD t p 0 + (getD t (p + 1) 0 + (getD t (p + 2) 0 + (getD t (p + 3) 0 + 0 * 256) * 256) * 256) * 256 = omega arith in
+    rw (four-rest t s n i h k) (ap (λ (x : ℕ). mixed x (stretch t (s + (i + 1) * 4) (n - (i + 1) * 4))) (e ∙ ap (mixIn a) w))
 
--- fewer than four are taken one by one
-mixed-short : (a : ℕ) (l : List ℕ) → length l < 4 → mixed a l ≡ mixedBytes a l
-unfolding mixed mixedBytes
-mixed-short a [] h = refl
-mixed-short a (b ∷ []) h = refl
-mixed-short a (b ∷ c ∷ []) h = refl
-mixed-short a (b ∷ c ∷ d ∷ []) h = refl
-mixed-short a (b ∷ c ∷ d ∷ e ∷ l) h = absurd (omega arith)
+-- ---- fewer than four bytes, at once
 
-pub four-end : (t : List ℕ) (s n a i : ℕ) → i ≡ n / 4 → s + n ≤ length t → mixedBytes a (stretch t (s + n / 4 * 4) (n - n / 4 * 4)) ≡ mixed a (stretch t (s + i * 4) (n - i * 4))
-four-end t s n a i e k =
-    let l : length (stretch t (s + n / 4 * 4) (n - n / 4 * 4)) ≡ n - n / 4 * 4 = length-stretch t (s + n / 4 * 4) (n - n / 4 * 4) (omega arith) in
-    rw e (sym (mixed-short a (stretch t (s + n / 4 * 4) (n - n / 4 * 4)) (omega arith)))
+pub sum-short : (s : ℕ) (l : List ℕ) → s < 2 ^ 32 → Bytes l → length l < 4 → sumIn s (wordOf l) ≡ wrappingSum s l
+unfolding wrappingSum wordOf
+sum-short s [] h f k = four-sum s 0 0 0 0 (omega arith) (omega arith) (omega arith) (omega arith) ∙ omega arith
+sum-short s (a ∷ []) h f k =
+    let e : a + 0 * 256 ≡ a + 0 * 256 + 0 * 65536 + 0 * 16777216 = omega arith in
+    rw e (four-sum s a 0 0 0 (f 0) (omega arith) (omega arith) (omega arith) ∙ omega arith)
+sum-short s (a ∷ b ∷ []) h f k =
+    let e : a + (b + 0 * 256) * 256 ≡ a + b * 256 + 0 * 65536 + 0 * 16777216 = omega arith in
+    rw e (four-sum s a b 0 0 (f 0) (f 1) (omega arith) (omega arith) ∙ omega arith)
+sum-short s (a ∷ b ∷ c ∷ []) h f k =
+    let e : a + (b + (c + 0 * 256) * 256) * 256 ≡ a + b * 256 + c * 65536 + 0 * 16777216 = omega arith in
+    rw e (four-sum s a b c 0 (f 0) (f 1) (f 2) (omega arith) ∙ omega arith)
+sum-short s (a ∷ b ∷ c ∷ d ∷ l) h f k = absurd (omega arith)
+
+pub mix-short : (s : ℕ) (l : List ℕ) → length l < 4 → mixIn s (wordOf l) ≡ mixed s l
+unfolding mixed wordOf
+mix-short s [] k = refl
+mix-short s (a ∷ []) k = refl
+mix-short s (a ∷ b ∷ []) k = refl
+mix-short s (a ∷ b ∷ c ∷ []) k = refl
+mix-short s (a ∷ b ∷ c ∷ d ∷ l) k = absurd (omega arith)

@@ -1,3 +1,4 @@
+pub mod Words
 pub mod Hashes
 pub mod First
 pub mod Trails

@@ -1,11 +1,11 @@
 -- The empty table is in order; entries with distinct names may be searched from either end.
 -- Assumes nothing.
-use Prim.Native.Nat.{ℕ, zero, suc}
+use Prim.Native.Nat.{ℕ, zero, suc, _<_}
 use mathlib.Core.Path.{_≡_, refl, sym, ap, _∙_}
 use mathlib.Core.Bool.{Bool, true, false, cond}
 use mathlib.Core.List.{List, [], _∷_, _++_, reverse, reverse-cons}
 use native.Mathlib.Omega.{arith}
-use lib.ListN.{replicate, length-replicate, getD-replicate}
+use lib.ListN.{length, replicate, length-replicate, getD-replicate}
 use Rattle.laws.specs.Stretches.{sameBytes}
 use Rattle.laws.proofs.Stretches.{same-eq}
 use Rattle.names.specs.Names.{Entry, nameOf, lookup}
@@ -19,15 +19,16 @@ unfolding reached first
 none-reached text names b h zero = refl
 none-reached text names b h (suc d) = ap (firstAfter (agrees text names b h (suc d)) 0) (none-reached text names b h d) ∙ after-last (agrees text names b h (suc d)) 0
 
-pub empty-table : (text names : List ℕ) → Table text (replicate 256 0) names 0
-empty-table text names =
+pub empty-table : (text names : List ℕ) → length text < 2097152 → Table text (replicate 256 0) names 0
+empty-table text names h =
     record {
+      sized = h;
       heads-sized = length-replicate {A = ℕ} 256 0;
       room = omega arith;
-      inside = λ k h. absurd (omega arith);
-      trail = λ k h. absurd (omega arith);
-      head = λ b h l. getD-replicate 256 b 0 0 l ∙ sym (none-reached text names b h 0);
-      link = λ b h d k e. absurd (omega (arith, none-reached text names b h d));
+      inside = λ k l. absurd (omega arith);
+      trail = λ k l. absurd (omega arith);
+      head = λ b g l. getD-replicate 256 b 0 0 l ∙ sym (none-reached text names b g 0);
+      link = λ b g d k e. absurd (omega (arith, none-reached text names b g d));
     }
 
 pub no-entries : (names : List ℕ) → entries names 0 ≡ []

@@ -1,58 +1,63 @@
 -- Laws of the records that a search comes to.
 -- Assumes nothing.
-use Prim.Native.Nat.{ℕ, zero, suc, _+_, _-_, _*_, _/_, _%_, _^_, _≤_, _<_}
-use mathlib.Core.Path.{_≡_, refl, sym, ap, ap₂, _∙_}
-use mathlib.Core.Bool.{Bool, true, false, cond, _&&_}
+use Prim.Native.Nat.{ℕ, zero, suc, _+_, _≤_, _<_}
+use mathlib.Core.Path.{_≡_, refl, sym, ap, _∙_}
+use mathlib.Core.Bool.{true, cond}
 use mathlib.Core.List.{List}
 use native.Mathlib.Omega.{arith}
 use lib.Dec.{eqb}
-use lib.Pow.{field, mod-mod-pow, mod-pow-add}
 use borrow.Author.Tests.{eqb-true, eq-eqb}
 use Rattle.laws.proofs.Tests.{and-true, and-makes}
-use Rattle.names.specs.Chains.{bucketAt, trailAt, agrees, first, firstAfter, reached}
+use Rattle.names.specs.Chains.{restOf, digitAt, prefixOf, bucketAt, trailAt, agrees, firstAfter, reached}
 use Rattle.names.proofs.First.{first-at, first-same, first-more-all, new-is, orElse, after-kept, after-new, after-last, after-at, after-same}
 
--- ---- bits of trails
+-- ---- digits of trails
 
-up : (d x : ℕ) → x % 2 ^ (1 + d) ≡ x % 2 ^ suc d
-up d x =
-    let e : 1 + d ≡ suc d = omega arith in
-    ap (λ (n : ℕ). x % 2 ^ n) e
+pub rest-small : (h d : ℕ) → restOf h d < 4194304
+unfolding restOf
+rest-small h zero = omega arith
+rest-small h (suc d) = omega arith
 
--- trails that agree in d + 1 bits agree in d
-pub fewer-bits : (d g h : ℕ) → g % 2 ^ suc d ≡ h % 2 ^ suc d → g % 2 ^ d ≡ h % 2 ^ d
-fewer-bits d g h e = sym (mod-mod-pow g 1 d) ∙ ap (λ (x : ℕ). x % 2 ^ d) (up d g ∙ e ∙ sym (up d h)) ∙ mod-mod-pow h 1 d
+pub digit-small : (h d : ℕ) → digitAt h d < 6
+unfolding digitAt
+digit-small h d = omega (arith, rest-small h d)
 
--- and in bit d
-pub same-bit : (d g h : ℕ) → g % 2 ^ suc d ≡ h % 2 ^ suc d → g / 2 ^ d % 2 ≡ h / 2 ^ d % 2
-same-bit d g h e = sym (field g 1 d) ∙ ap (λ (x : ℕ). x / 2 ^ d) (up d g ∙ e ∙ sym (up d h)) ∙ field h 1 d
+-- trails that agree in d + 1 digits agree in d
+pub fewer-digits : (d g h : ℕ) → prefixOf g (suc d) ≡ prefixOf h (suc d) → prefixOf g d ≡ prefixOf h d
+unfolding prefixOf
+fewer-digits d g h e = omega (arith, e, digit-small g d, digit-small h d)
+
+-- and in digit d
+pub same-digit : (d g h : ℕ) → prefixOf g (suc d) ≡ prefixOf h (suc d) → digitAt g d ≡ digitAt h d
+unfolding prefixOf
+same-digit d g h e = omega (arith, e, digit-small g d, digit-small h d)
 
 -- the other way
-pub more-bits : (d g h : ℕ) → g % 2 ^ d ≡ h % 2 ^ d → g / 2 ^ d % 2 ≡ h / 2 ^ d % 2 → g % 2 ^ suc d ≡ h % 2 ^ suc d
-more-bits d g h e b =
-    sym (up d g) ∙ mod-pow-add g 1 d ∙ ap₂ (λ (x y : ℕ). x * 2 ^ d + y) b e ∙ sym (mod-pow-add h 1 d) ∙ up d h
+pub more-digits : (d g h : ℕ) → prefixOf g d ≡ prefixOf h d → digitAt g d ≡ digitAt h d → prefixOf g (suc d) ≡ prefixOf h (suc d)
+unfolding prefixOf
+more-digits d g h e b = rw (e, b)
 
 module _ (text names : List ℕ) where
   -- ---- what it is to agree
 
-  pub agrees-means : (b h d k : ℕ) → agrees text names b h d k ≡ true → (bucketAt text names k ≡ b) × (trailAt text names k % 2 ^ d ≡ h % 2 ^ d)
+  pub agrees-means : (b h d k : ℕ) → agrees text names b h d k ≡ true → (bucketAt text names k ≡ b) × (prefixOf (trailAt text names k) d ≡ prefixOf h d)
   unfolding agrees
   agrees-means b h d k e =
-      let both = and-true (eqb (bucketAt text names k) b) (eqb (trailAt text names k % 2 ^ d) (h % 2 ^ d)) e in
+      let both = and-true (eqb (bucketAt text names k) b) (eqb (prefixOf (trailAt text names k) d) (prefixOf h d)) e in
       (eqb-true _ _ (both .0), eqb-true _ _ (both .1))
 
-  pub agrees-makes : (b h d k : ℕ) → bucketAt text names k ≡ b → trailAt text names k % 2 ^ d ≡ h % 2 ^ d → agrees text names b h d k ≡ true
+  pub agrees-makes : (b h d k : ℕ) → bucketAt text names k ≡ b → prefixOf (trailAt text names k) d ≡ prefixOf h d → agrees text names b h d k ≡ true
   unfolding agrees
   agrees-makes b h d k p q = and-makes _ _ (eq-eqb _ _ p) (eq-eqb _ _ q)
 
-  agrees-same : (b g h d k : ℕ) → g % 2 ^ d ≡ h % 2 ^ d → agrees text names b g d k ≡ agrees text names b h d k
+  agrees-same : (b g h d k : ℕ) → prefixOf g d ≡ prefixOf h d → agrees text names b g d k ≡ agrees text names b h d k
   unfolding agrees
   agrees-same b g h d k e = rw e
 
   -- ---- a record that is reached
 
   module _ (count b : ℕ) where
-    pub reached-at : (h d k : ℕ) → reached text names count b h d ≡ suc k → (k < count) × (bucketAt text names k ≡ b) × (trailAt text names k % 2 ^ d ≡ h % 2 ^ d)
+    pub reached-at : (h d k : ℕ) → reached text names count b h d ≡ suc k → (k < count) × (bucketAt text names k ≡ b) × (prefixOf (trailAt text names k) d ≡ prefixOf h d)
     unfolding reached
     reached-at h zero k e =
         let f = first-at (agrees text names b h 0) 0 count k e in
@@ -66,16 +71,16 @@ module _ (text names : List ℕ) where
     pub reached-in : (h d : ℕ) → reached text names count b h d ≤ count
     reached-in h d = go (reached text names count b h d) (λ k. reached-at h d k)
       where
-        go : (x : ℕ) → ((k : ℕ) → x ≡ suc k → (k < count) × (bucketAt text names k ≡ b) × (trailAt text names k % 2 ^ d ≡ h % 2 ^ d)) → x ≤ count
+        go : (x : ℕ) → ((k : ℕ) → x ≡ suc k → (k < count) × (bucketAt text names k ≡ b) × (prefixOf (trailAt text names k) d ≡ prefixOf h d)) → x ≤ count
         go zero f = omega arith
         go (suc k) f = omega (arith, f k refl .0)
 
     -- trails that agree so far lead to the same record
-    pub reached-same : (g h d : ℕ) → g % 2 ^ d ≡ h % 2 ^ d → reached text names count b g d ≡ reached text names count b h d
+    pub reached-same : (g h d : ℕ) → prefixOf g d ≡ prefixOf h d → reached text names count b g d ≡ reached text names count b h d
     unfolding reached
     reached-same g h zero e = first-same (agrees text names b g 0) (agrees text names b h 0) 0 count (λ j l. agrees-same b g h 0 j e)
     reached-same g h (suc d) e =
-        ap (firstAfter (agrees text names b g (suc d)) count) (reached-same g h d (fewer-bits d g h e))
+        ap (firstAfter (agrees text names b g (suc d)) count) (reached-same g h d (fewer-digits d g h e))
         ∙ after-same (agrees text names b g (suc d)) (agrees text names b h (suc d)) count (reached text names count b h d) (reached-in h d) (λ j l. agrees-same b g h (suc d) j e)
 
     -- the records before it are reached too, each with a smaller number

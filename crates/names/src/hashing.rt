@@ -3,21 +3,7 @@ ghost use mathlib.Core.Path.{_≡_};
 ghost use Prim.Native.Nat.{_+_, _-_, _*_, _/_, _^_, _<_, _≤_};
 ghost use lib.ListN.{length, getD};
 ghost use Rattle.laws.specs.Stretches.{stretch};
-ghost use Rattle.names.specs.Chains.{bucketOf, mixIn, mixedBytes, mixed, trailOf};
-
-// The chain of a name: the 32-bit wrapping sum of its bytes, modulo 256.
-pub fn bucket(text: &[u8], start: usize, len: usize) -> usize
-    requires { ⌜ start + len ≤ length (now text) ⌝ }
-    ensures { λ r. ⌜ (r ≡ bucketOf (stretch (now (text .entry)) start len)) × (r < 256) ⌝ }
-{
-    let mut sum: u32 = 0;
-    let mut i = 0;
-    while i < len {
-        sum = std::num::wrapping_add_u32(sum, text[start + i] as u32);
-        i += 1;
-    }
-    (sum % 256) as usize
-}
+ghost use Rattle.names.specs.Chains.{wrappingSum, sumIn, bucketOf, wordOf, mixIn, mixed, trailOf};
 
 // A byte as a word.
 pub fn wide(b: u8) -> usize
@@ -38,49 +24,91 @@ pub fn four_bytes(text: &[u8], at: usize) -> usize
     a + b * 256 + c * 65536 + d * 16777216
 }
 
-pub fn mix_in(mix: usize, word: usize) -> usize
-    requires { ⌜ (mix < 2 ^ 32) × (word < 2 ^ 32) ⌝ }
-    ensures { λ r. ⌜ (r ≡ mixIn mix word) × (r < 2 ^ 32) ⌝ }
+// Fewer than four bytes as one number, the last of the text.
+pub fn few_bytes(text: &[u8], at: usize, len: usize) -> usize
+    requires { ⌜ (at + len ≤ length (now text)) × (len < 4) ⌝ }
+    ensures { λ r. ⌜ r ≡ wordOf (stretch (now (text .entry)) at len) ⌝ }
 {
-    (mix + word) * 1540483477 % 4294967296
+    if len == 0 {
+        return 0;
+    }
+    let a = wide(text[at]);
+    if len == 1 {
+        return a;
+    }
+    let b = wide(text[at + 1]);
+    if len == 2 {
+        return a + b * 256;
+    }
+    let c = wide(text[at + 2]);
+    a + b * 256 + c * 65536
 }
 
-// The mix of a stretch up to its last bytes, of which there are fewer than four.
-pub fn mix_words(text: &[u8], start: usize, len: usize) -> usize
-    requires { ⌜ start + len ≤ length (now text) ⌝ }
-    ensures { λ r. ⌜ (mixedBytes r (stretch (now (text .entry)) (start + len / 4 * 4) (len - len / 4 * 4)) ≡ mixed 0 (stretch (now (text .entry)) start len)) × (r < 2 ^ 32) ⌝ }
+// Fewer than four bytes as one number. Four are read at once, but for the last of the text.
+pub fn last_bytes(text: &[u8], at: usize, len: usize) -> usize
+    requires { ⌜ (at + len ≤ length (now text)) × (len < 4) ⌝ }
+    ensures { λ r. ⌜ (r ≡ wordOf (stretch (now (text .entry)) at len)) × (r < 2 ^ 32) ⌝ }
 {
-    let mut mix = 0;
+    if text.len() - at < 4 {
+        return few_bytes(text, at, len);
+    }
+    let word = four_bytes(text, at);
+    word % (1 << (len * 8))
+}
+
+// The sum and the mix of the bytes so far.
+pub struct Sums {
+    pub sum: usize,
+    pub mix: usize,
+}
+
+// With the bytes of a number more.
+pub fn add_word(sums: Sums, word: usize) -> Sums
+    requires { ⌜ (sums .sum < 2 ^ 32) × (sums .mix < 2 ^ 32) × (word < 2 ^ 32) ⌝ }
+    ensures { λ r. ⌜ (r .sum ≡ sumIn (sums .sum) word) × (r .sum < 2 ^ 32) ⌝ }
+    ensures { λ r. ⌜ (r .mix ≡ mixIn (sums .mix) word) × (r .mix < 2 ^ 32) ⌝ }
+{
+    let bytes = word % 256 + word / 256 % 256 + word / 65536 % 256 + word / 16777216;
+    Sums {
+        sum: (sums.sum + bytes) % 4294967296,
+        mix: (sums.mix + word) * 1540483477 / 2048 % 4294967296,
+    }
+}
+
+// Of a stretch up to its last bytes, of which there are fewer than four.
+pub fn sum_words(text: &[u8], start: usize, len: usize) -> Sums
+    requires { ⌜ start + len ≤ length (now text) ⌝ }
+    ensures { λ r. ⌜ (wrappingSum (r .sum) (stretch (now (text .entry)) (start + len / 4 * 4) (len - len / 4 * 4)) ≡ wrappingSum 0 (stretch (now (text .entry)) start len)) × (r .sum < 2 ^ 32) ⌝ }
+    ensures { λ r. ⌜ (mixed (r .mix) (stretch (now (text .entry)) (start + len / 4 * 4) (len - len / 4 * 4)) ≡ mixed 0 (stretch (now (text .entry)) start len)) × (r .mix < 2 ^ 32) ⌝ }
+{
+    let mut sums = Sums { sum: 0, mix: 0 };
     let mut i = 0;
     while i < len / 4 {
         let word = four_bytes(text, start + i * 4);
-        mix = mix_in(mix, word);
+        sums = add_word(sums, word);
         i += 1;
     }
-    mix
+    sums
 }
 
-// The mix of the bytes of a stretch, on top of another.
-pub fn mix_bytes(text: &[u8], start: usize, len: usize, from: usize) -> usize
-    requires { ⌜ (start + len ≤ length (now text)) × (from < 2 ^ 32) ⌝ }
-    ensures { λ r. ⌜ (r ≡ mixedBytes from (stretch (now (text .entry)) start len)) × (r < 2 ^ 32) ⌝ }
-{
-    let mut mix = from;
-    let mut i = 0;
-    while i < len {
-        let byte = wide(text[start + i]);
-        mix = mix_in(mix, byte);
-        i += 1;
-    }
-    mix
+// The chain of a name (the 32-bit wrapping sum of its bytes, modulo 256) and its trail.
+pub struct Hash {
+    pub bucket: usize,
+    pub trail: usize,
 }
 
-// The trail of a name.
-pub fn trail_of(text: &[u8], start: usize, len: usize) -> usize
+// Both in one pass.
+pub fn hash_of(text: &[u8], start: usize, len: usize) -> Hash
     requires { ⌜ start + len ≤ length (now text) ⌝ }
-    ensures { λ r. ⌜ (r ≡ trailOf (stretch (now (text .entry)) start len)) × (r < 4194304) ⌝ }
+    ensures { λ r. ⌜ (r .bucket ≡ bucketOf (stretch (now (text .entry)) start len)) × (r .bucket < 256) ⌝ }
+    ensures { λ r. ⌜ (r .trail ≡ trailOf (stretch (now (text .entry)) start len)) × (r .trail < 4194304) ⌝ }
 {
     let whole = len / 4 * 4;
-    let mix = mix_words(text, start, len);
-    mix_bytes(text, start + whole, len - whole, mix) / 1024
+    let sums = sum_words(text, start, len);
+    let word = last_bytes(text, start + whole, len - whole);
+    let all = add_word(sums, word);
+    Hash {
+        bucket: all.sum % 256,
+        trail: all.mix / 1024,
+    }
 }

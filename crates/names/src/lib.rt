@@ -1,14 +1,14 @@
-// The table of names: 256 chain heads, and records of four words (start, length, wire, links) in a lent area.
+// The table of names: 256 chain heads, and records of four words in a lent area: a name and its trail, its wire, and six links.
 ghost use mathlib.Core.Path.{_≡_};
 ghost use mathlib.Core.Bool.{cond};
 ghost use Prim.Native.Nat.{_+_, _*_, _%_, _<_, _≤_};
-ghost use lib.ListN.{length, getD};
+ghost use lib.ListN.{length};
 ghost use Rattle.laws.specs.Stretches.{stretch, sameBytes};
 ghost use Rattle.names.specs.Names.{Entry, lookup};
-ghost use Rattle.names.specs.Chains.{bucketOf, trailOf, entries, linkOf, linkUnit, trailIn, headed, linked, LinkFits, Table, EndsAt, Defined};
-use crate::hashing::bucket;
-use crate::hashing::trail_of;
-use text::bytes::is_word;
+ghost use Rattle.names.specs.Chains.{bucketOf, trailOf, startIn, lenIn, trailIn, entries, linkUnit, linkAt, headed, linked, LinkFits, Table, EndsAt, Defined};
+use crate::hashing::four_bytes;
+use crate::hashing::hash_of;
+use crate::hashing::last_bytes;
 
 pub mod hashing;
 
@@ -18,63 +18,69 @@ pub enum Found {
     Nothing,
 }
 
-// Where a search ends: the chain, the last record on the way (0: none), the bit that chose its link, and the name's trail.
+// Where a search ends: the chain, the last record on the way (0: none), the digit that chose its link, and the name's trail.
 pub struct End {
     pub bucket: usize,
     pub last: usize,
-    pub bit: usize,
+    pub digit: usize,
     pub trail: usize,
 }
 
-// Whether two stretches hold the same name.
-pub fn same_name(text: &[u8], a: usize, a_len: usize, b: usize, b_len: usize) -> bool
-    requires { ⌜ (a + «a_len» ≤ length (now text)) × (b + «b_len» ≤ length (now text)) ⌝ }
-    ensures { λ r. ⌜ r ≡ sameBytes (stretch (now (text .entry)) a «a_len») (stretch (now (text .entry)) b «b_len») ⌝ }
+// Whether two stretches of one length hold the same name: four bytes at a time, then what is left.
+pub fn same_name(text: &[u8], a: usize, b: usize, len: usize) -> bool
+    requires { ⌜ (a + len ≤ length (now text)) × (b + len ≤ length (now text)) ⌝ }
+    ensures { λ r. ⌜ r ≡ sameBytes (stretch (now (text .entry)) a len) (stretch (now (text .entry)) b len) ⌝ }
 {
-    let end = b + b_len;
-    is_word(text, a, a_len, &text[b..end])
+    let words = len / 4;
+    let mut i = 0;
+    while i < words {
+        let x = four_bytes(text, a + i * 4);
+        let y = four_bytes(text, b + i * 4);
+        if x != y {
+            return false;
+        }
+        i += 1;
+    }
+    let x = last_bytes(text, a + words * 4, len - words * 4);
+    let y = last_bytes(text, b + words * 4, len - words * 4);
+    if x != y {
+        return false;
+    }
+    true
 }
 
-// The link that the first bit of a trail chooses: two links share a word with a trail.
-pub fn link(word: usize, trail: usize) -> usize
-    ensures { λ r. ⌜ r ≡ linkOf word (trail % 2) ⌝ }
+// The link that a digit chooses in the record at `base`.
+pub fn link(names: &[usize], base: usize, digit: usize) -> usize
+    requires { ⌜ (base + 4 ≤ length (now names)) × (digit < 6) ⌝ }
+    ensures { λ r. ⌜ r ≡ linkAt (now (names .entry)) base digit ⌝ }
 {
-    if trail % 2 == 0 {
-        return word % 2097152;
-    }
-    word / 2097152 % 2097152
+    let word = names[base + 2 + digit % 2];
+    (word >> (digit / 2 * 21)) % 2097152
 }
 
 // What a link adds to its word.
-pub fn link_unit(bit: usize) -> usize
-    ensures { λ r. ⌜ r ≡ linkUnit bit ⌝ }
+pub fn link_unit(place: usize) -> usize
+    ensures { λ r. ⌜ r ≡ linkUnit place ⌝ }
 {
-    if bit == 0 {
+    if place == 0 {
         return 1;
     }
-    2097152
+    if place == 1 {
+        return 2097152;
+    }
+    4398046511104
 }
 
-// Whether the record at `base`, whose last word is at hand, has a name of that trail. Names of other trails are not looked at.
-pub fn has_name(
-    text: &[u8],
-    start: usize,
-    len: usize,
-    trail: usize,
-    names: &[usize],
-    base: usize,
-    word: usize,
-) -> bool
-    requires { ⌜ (base + 1 < length (now names)) × (getD (now names) base 0 + getD (now names) (base + 1) 0 ≤ length (now text)) × (start + len ≤ length (now text)) ⌝ }
-    requires { ⌜ (trail ≡ trailOf (stretch (now text) start len)) × (trailIn word ≡ trailOf (stretch (now text) (getD (now names) base 0) (getD (now names) (base + 1) 0))) ⌝ }
-    ensures { λ r. ⌜ r ≡ sameBytes (stretch (now (text .entry)) (getD (now (names .entry)) base 0) (getD (now (names .entry)) (base + 1) 0)) (stretch (now (text .entry)) start len) ⌝ }
+// Whether the record with this first word has a name of that length and trail (`key`). Names of another are not looked at.
+pub fn has_name(text: &[u8], start: usize, len: usize, key: usize, word: usize) -> bool
+    requires { ⌜ (startIn word + lenIn word ≤ length (now text)) × (start + len ≤ length (now text)) × (len < 2097152) ⌝ }
+    requires { ⌜ (key ≡ len + trailOf (stretch (now text) start len) * 2097152) × (trailIn word ≡ trailOf (stretch (now text) (startIn word) (lenIn word))) ⌝ }
+    ensures { λ r. ⌜ r ≡ sameBytes (stretch (now (text .entry)) (startIn word) (lenIn word)) (stretch (now (text .entry)) start len) ⌝ }
 {
-    if word / 4398046511104 != trail {
+    if word / 2097152 != key {
         return false;
     }
-    let s = names[base];
-    let l = names[base + 1];
-    same_name(text, s, l, start, len)
+    same_name(text, word % 2097152, start, len)
 }
 
 // The record at hand if it has the name, else the last that had.
@@ -100,23 +106,25 @@ pub fn find(
     requires { ⌜ start + len ≤ length (now text) ⌝ }
     ensures { λ r. ⌜ r ≡ lookup (now (text .entry)) (stretch (now (text .entry)) start len) (entries (now (names .entry)) count) ⌝ }
 {
-    let b = bucket(text, start, len);
-    let trail = trail_of(text, start, len);
+    let hash = hash_of(text, start, len);
+    let b = hash.bucket;
+    let trail = hash.trail;
+    let key = len + trail * 2097152;
     let mut rest = trail;
     let mut at = heads[b];
     let mut last = 0;
     while at != 0 {
         let base = (at - 1) * 4;
-        let word = names[base + 3];
-        let same = has_name(text, start, len, trail, names, base, word);
+        let word = names[base];
+        let same = has_name(text, start, len, key, word);
         last = newer(same, at, last);
-        at = link(word, rest);
-        rest = rest / 2;
+        at = link(names, base, rest * 6 / 4194304);
+        rest = rest * 6 % 4194304;
     }
     if last == 0 {
         return Found::Nothing;
     }
-    Found::At(names[(last - 1) * 4 + 2])
+    Found::At(names[(last - 1) * 4 + 1])
 }
 
 // Where the search for a name ends, whether it is there or not.
@@ -132,25 +140,26 @@ pub fn end_of(
     requires { ⌜ start + len ≤ length (now text) ⌝ }
     ensures { λ r. ⌜ (r .bucket ≡ bucketOf (stretch (now (text .entry)) start len)) × (r .bucket < 256) ⌝ }
     ensures { λ r. ⌜ (r .trail ≡ trailOf (stretch (now (text .entry)) start len)) × (r .trail < 4194304) ⌝ }
-    ensures { λ r. ⌜ EndsAt (now (text .entry)) (now (names .entry)) count (stretch (now (text .entry)) start len) (r .last) (r .bit) ⌝ }
+    ensures { λ r. ⌜ EndsAt (now (text .entry)) (now (names .entry)) count (stretch (now (text .entry)) start len) (r .last) (r .digit) ⌝ }
 {
-    let b = bucket(text, start, len);
-    let trail = trail_of(text, start, len);
+    let hash = hash_of(text, start, len);
+    let b = hash.bucket;
+    let trail = hash.trail;
     let mut rest = trail;
     let mut at = heads[b];
     let mut last = 0;
-    let mut bit = 0;
+    let mut digit = 0;
     while at != 0 {
-        let word = names[(at - 1) * 4 + 3];
+        let base = (at - 1) * 4;
         last = at;
-        bit = rest % 2;
-        at = link(word, rest);
-        rest = rest / 2;
+        digit = rest * 6 / 4194304;
+        at = link(names, base, digit);
+        rest = rest * 6 % 4194304;
     }
     End {
         bucket: b,
         last,
-        bit,
+        digit,
         trail,
     }
 }
@@ -158,9 +167,9 @@ pub fn end_of(
 // The link at the end of a search, or the head, set to a record.
 pub fn hang(end: End, at: usize, heads: &mut [usize; 256], names: &mut [usize])
     requires { ⌜ end .bucket < 256 ⌝ }
-    requires { ⌜ LinkFits (now names) (end .last) (end .bit) at ⌝ }
+    requires { ⌜ LinkFits (now names) (end .last) (end .digit) at ⌝ }
     ensures { λ _. ⌜ now (heads .exit) ≡ headed (now (heads .entry)) (end .bucket) (end .last) at ⌝ }
-    ensures { λ _. ⌜ now (names .exit) ≡ linked (now (names .entry)) (end .last) (end .bit) at ⌝ }
+    ensures { λ _. ⌜ now (names .exit) ≡ linked (now (names .entry)) (end .last) (end .digit) at ⌝ }
 {
     let last = end.last;
     let bucket = end.bucket;
@@ -168,8 +177,9 @@ pub fn hang(end: End, at: usize, heads: &mut [usize; 256], names: &mut [usize])
         heads[bucket] = at;
         return;
     }
-    let unit = link_unit(end.bit);
-    let place = (last - 1) * 4 + 3;
+    let digit = end.digit;
+    let unit = link_unit(digit / 2);
+    let place = (last - 1) * 4 + 2 + digit % 2;
     names[place] = names[place] + at * unit;
 }
 
@@ -189,11 +199,11 @@ pub fn define(
     ensures { λ _. ⌜ Defined (now (text .entry)) (now (heads .exit)) (now (names .exit)) (count + 1) (record { start = start; len = len; wire = wire }) (entries (now (names .entry)) count) ⌝ }
 {
     let end = end_of(text, start, len, heads, names, count);
-    let word = end.trail * 4398046511104;
+    let name = start + (len + end.trail * 2097152) * 2097152;
     hang(end, count + 1, heads, names);
     let at = count * 4;
-    names[at] = start;
-    names[at + 1] = len;
-    names[at + 2] = wire;
-    names[at + 3] = word;
+    names[at] = name;
+    names[at + 1] = wire;
+    names[at + 2] = 0;
+    names[at + 3] = 0;
 }

@@ -8,12 +8,12 @@ use native.Mathlib.Nat.{sub-zero}
 use native.Mathlib.Omega.{arith}
 use lib.ListN.{length, getD, take, drop, replicate, length-replicate}
 use lib.Seq.{take-at}
-use lib.Dec.{leb}
-use borrow.Author.Tests.{leb-false}
+use lib.Dec.{leb, ltb}
+use borrow.Author.Tests.{leb-false, ltb-false}
 use Rattle.laws.specs.Areas.{encodes}
 use Rattle.laws.proofs.Areas.{length-encodes, length-up}
 use Rattle.circuit.specs.declared.refusals.Refusal.{Refusal}
-use Rattle.circuit.specs.declared.refusals.Refusal.the-variants.{NoRoom}
+use Rattle.circuit.specs.declared.refusals.Refusal.the-variants.{TextTooLong, NotAscii, NoRoom}
 use Rattle.circuit.specs.declared.refusals.Checked.{Checked}
 use Rattle.circuit.specs.declared.refusals.Checked.the-variants.{Sound, Refused}
 use Rattle.circuit.specs.declared.refusals.Read.{Read}
@@ -23,6 +23,7 @@ use Rattle.circuit.specs.Records.{encodeNode, nodesOf, encodeOutput, outputsOf,
 use Rattle.circuit.specs.Circuits.{Circuit, filled, readAnswer, nodeWords, outputWords}
 use Rattle.circuit.proofs.Codes.{node-wide, output-wide, length-nodes}
 use Rattle.circuit.proofs.Checks.{no-fault, not-refused}
+use Rattle.text.specs.Bytes.{isAscii}
 use Rattle.text.specs.Joining.{joinedText, Joins}
 use Rattle.names.specs.Chains.{Table, entries}
 use Rattle.names.proofs.Orders.{empty-table}
@@ -38,6 +39,13 @@ pub sound-fits : (text : List ℕ) (j : ℕ) → textFault text j ≡ Sound → 
 unfolding textFault
 sound-fits text j e = leb-false j (length text) (not-refused (leb j (length text)) NoRoom (no-fault (bytesFault text) (refuseIf (leb j (length text)) NoRoom) e .1))
 
+-- the joined text is short enough for a table of names
+pub joined-short : (text : List ℕ) (j size r : ℕ) (joined : List ℕ) → textFault text j ≡ Sound → Joins text size r joined → r < 2097152
+unfolding textFault bytesFault
+joined-short text j size r joined e k =
+    let l = ltb-false 1048576 (length text) (not-refused (ltb 1048576 (length text)) TextTooLong (no-fault (refuseIf (ltb 1048576 (length text)) TextTooLong) (refuseIf (not (isAscii text)) NotAscii) (no-fault (bytesFault text) (refuseIf (leb j (length text)) NoRoom) e .0) .0)) in
+    omega (arith, l, k .fits)
+
 pub joined-in : (text : List ℕ) (size r : ℕ) (joined : List ℕ) → length joined ≡ size → length text < size → Joins text size r joined → JoinedIn text r joined
 joined-in text size r joined l h k = record {
   inside = omega (arith, k .fits);
@@ -50,9 +58,9 @@ joined-in text size r joined l h k = record {
 zeros-less : (n : ℕ) → _≡_ {A = List ℕ} (replicate n 0) (replicate (n - 0) 0)
 zeros-less n = ap (λ (k : ℕ). replicate k 0) (sym (sub-zero n))
 
-pub start-kept : (t ns ms : List ℕ) (n : ℕ) → ns ≡ replicate n 0 → Kept t (replicate 256 0) ns ms (record { nodes = 0; names = 0 })
-start-kept t ns ms n e = record {
-  table = empty-table t ms;
+pub start-kept : (t ns ms : List ℕ) (n : ℕ) → length t < 2097152 → ns ≡ replicate n 0 → Kept t (replicate 256 0) ns ms (record { nodes = 0; names = 0 })
+start-kept t ns ms n l e = record {
+  table = empty-table t ms l;
   nodes = record { room = omega arith; clean = e ∙ zeros-less n ∙ ap (λ (k : ℕ). replicate (k - 0) 0) (sym (length-replicate n 0) ∙ sym (ap length e)) };
 }
 

@@ -1,6 +1,6 @@
 -- What a reader of a joined text answers and leaves in every area.
 -- Assumes nothing.
-use Prim.Native.Nat.{ℕ, _≤_}
+use Prim.Native.Nat.{ℕ, _≤_, _<_}
 use mathlib.Core.Path.{_≡_}
 use mathlib.Core.List.{List, []}
 use lib.ListN.{length, replicate, take}
@@ -50,6 +50,7 @@ pub record JoinedIn (text : List ℕ) (used : ℕ) (joined : List ℕ) : Type 0 
 -- a text that has no fault, with its areas ready to be read into
 pub record Readied (text : List ℕ) (j n o used : ℕ) (joined nodes outputs : List ℕ) : Type 0 where
   pub sound : textFault text j ≡ Sound
+  pub short : used < 2097152
   pub joined-in : JoinedIn text used joined
   pub nodes-is : nodes ≡ replicate n 0
   pub outputs-is : outputs ≡ replicate o 0

@@ -25,7 +25,7 @@ read-text-requires : tie.Need-read-text-requires
 read-text-requires c κs =
     let d = c .before .before .before .before .before .before .before .before .before .before .before .before .before .prepare in
     let r = rw (c .before .before .before .before .before .prepared2 .given .1) at (d .ensures) in
-    (r .nodes-is ∙ ap (λ (n : ℕ). replicate n 0) (sym (d .kept .1 .1 .0)), r .outputs-is ∙ ap (λ (n : ℕ). replicate n 0) (sym (d .kept .1 .1 .1 .0)), r .joined-in .inside)
+    (r .nodes-is ∙ ap (λ (n : ℕ). replicate n 0) (sym (d .kept .1 .1 .0)), r .outputs-is ∙ ap (λ (n : ℕ). replicate n 0) (sym (d .kept .1 .1 .1 .0)), r .joined-in .inside, r .short)
 
 same-length : tie.Need-same-length
 same-length c = search needs

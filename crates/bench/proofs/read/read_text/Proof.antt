@@ -1,6 +1,7 @@
 -- `read_text` meets its contract.
 -- Assumes nothing.
 use mathlib.Core.Path.{sym}
+use native.Mathlib.Omega.{arith}
 use lib.ListN.{length}
 use lib.Seq.{length-take-le}
 use Rattle.text.specs.Joining.{joinedText}
@@ -17,7 +18,9 @@ slice-aggregate-read-joined : tie.Need-slice-aggregate-read-joined
 slice-aggregate-read-joined c = sym (length-take-le (c .before .before .before .before .before .args .used) (c .before .before .before .before .before .args .joined .now) (c .before .before .before .before .before .pre .2))
 
 read-joined-requires : tie.Need-read-joined-requires
-read-joined-requires c κs = search needs
+read-joined-requires c κs =
+    let l = length-take-le (c .before .before .before .before .before .before .before .before .args .used) (c .before .before .before .before .before .before .before .before .args .joined .now) (c .before .before .before .before .before .before .before .before .pre .2) in
+    (c .before .before .before .before .before .before .before .before .pre .0, c .before .before .before .before .before .before .before .before .pre .1, omega (arith, l, c .before .before .before .before .before .before .before .before .pre .3))
 
 conclude-requires : tie.Need-conclude-requires
 conclude-requires c κs = search needs

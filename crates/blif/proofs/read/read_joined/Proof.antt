@@ -14,7 +14,7 @@ use Rattle.blif.proofs.read.read_joined.Tie as tie
 read-lines-requires : tie.Need-read-lines-requires
 read-lines-requires c κs =
     let a = c .before .before .before .before .before .before .before .before .args in
-    (start-kept (a .text .now) (a .nodes .now) (a .names .now) (length (a .nodes .now)) (c .before .before .before .before .before .before .before .before .pre .0), start-words (a .text .now) (a .outputs .now) (length (a .outputs .now)) (c .before .before .before .before .before .before .before .before .pre .1))
+    (start-kept (a .text .now) (a .nodes .now) (a .names .now) (length (a .nodes .now)) (c .before .before .before .before .before .before .before .before .pre .2) (c .before .before .before .before .before .before .before .before .pre .0), start-words (a .text .now) (a .outputs .now) (length (a .outputs .now)) (c .before .before .before .before .before .before .before .before .pre .1))
 
 enum-known-fault : tie.Need-enum-known-fault
 enum-known-fault c = search needs

@@ -1,7 +1,7 @@
 use mathlib.Core.Path.{_≡_, refl, sym, ap, _∙_}
 use lib.ListN.{length}
 use denote.Ref.{now}
-use Rattle.reading.proofs.Outer.{sound-fits, joined-in}
+use Rattle.reading.proofs.Outer.{sound-fits, joined-short, joined-in}
 use borrow.Author.Needs.{needs}
 use Rattle.reading.proofs.areas.prepare.Statement.{statement}
 use Rattle.reading.proofs.areas.prepare.Tie as tie
@@ -41,6 +41,7 @@ returns-2 c =
     let sound = sym (c .before .before .before .before .before .before .before .before .before .before .before .before .before .before .text-fault .ensures) ∙ c .before .before .before .before .before .before .before .before .before .before .before .before .enum-told .given .1 in
     record {
       sound = sound;
+      short = joined-short (now (c .before .before .before .before .before .before .before .before .before .before .before .before .before .before .before .before .before .before .before .args .text)) (length (now (c .before .before .before .before .before .before .before .before .before .before .before .before .before .before .before .before .before .before .before .args .joined))) _ _ _ sound (c .before .before .logical-lines .ensures);
       joined-in = joined-in (now (c .before .before .before .before .before .before .before .before .before .before .before .before .before .before .before .before .before .before .before .args .text)) (length (now (c .before .before .before .before .before .before .before .before .before .before .before .before .before .before .before .before .before .before .before .args .joined))) _ _ (c .before .before .logical-lines .kept .1 .0) (sound-fits (now (c .before .before .before .before .before .before .before .before .before .before .before .before .before .before .before .before .before .before .before .args .text)) (length (now (c .before .before .before .before .before .before .before .before .before .before .before .before .before .before .before .before .before .before .before .args .joined))) sound) (c .before .before .logical-lines .ensures);
       nodes-is = c .before .before .before .before .before .before .before .before .before .before .clear .ensures;
       outputs-is = c .before .before .before .before .before .before .clear2 .ensures;
