@@ -8,7 +8,7 @@ use mathlib.Core.List.{List}
 use native.Mathlib.Omega.{arith}
 use lib.Dec.{eqb, ltb}
 use lib.ListN.{length, getD, set, drop, take, length-set, length-drop}
-use lib.Seq.{getD-set-same, getD-set-other, drop-set-lt}
+use lib.Seq.{getD-set-same, getD-set-other, getD-drop, drop-set-lt}
 use lib.Pow.{shr-le}
 use borrow.Rule.Slice.PartMut.{putMid, midOf, same-len-mid}
 use lib.Count.{trailingZeros}
@@ -182,11 +182,14 @@ module _ (up : Bool) (area : List ℕ) (n k v : ℕ) (room : n ≤ length area) 
   wrote : Wrote area (n / 64 + 1) (k / 64) v (set area (k / 64) v)
   wrote = wrote-set area (n / 64 + 1) (k / 64) v (omega arith)
 
+  past : (i : ℕ) → 2 * (n / 64 + 1) ≤ i → getD (set area (k / 64) v) i 0 ≡ getD area i 0
+  past i h = getD-set-other area (k / 64) i v 0 (omega arith)
+
   pub mark-single : n < 64 → Marked up area n k (set area (k / 64) v)
-  mark-single h = record { levels = single h; members = members-by area (set area (k / 64) v) n k v up bits wrote }
+  mark-single h = record { levels = single h; members = members-by area (set area (k / 64) v) n k v up bits wrote; beyond = past }
 
   mark-same : eqb v 0 ≡ eqb (getD area (k / 64) 0) 0 → Marked up area n k (set area (k / 64) v)
-  mark-same e = record { levels = go (ltb n 64) refl; members = members-by area (set area (k / 64) v) n k v up bits wrote }
+  mark-same e = record { levels = go (ltb n 64) refl; members = members-by area (set area (k / 64) v) n k v up bits wrote; beyond = past }
     where
       summary : Summary area n → (w : ℕ) → w < n / 64 + 1 → (t : Bool) → eqb w (k / 64) ≡ t → member (drop (n / 64 + 1) (set area (k / 64) v)) w ≡ not (eqb (getD (set area (k / 64) v) w 0) 0)
       summary s w h true q =
@@ -227,11 +230,21 @@ module _ (up : Bool) (area : List ℕ) (n k v : ℕ) (room : n ≤ length area) 
     summary-after w h false q =
         rest-members w h ∙ ap (updated up (member (drop (n / 64 + 1) area) w)) q ∙ keeps up _ ∙ levels-summary big levels w h ∙ sym (ap (λ (x : ℕ). not (eqb x 0)) (wrote-after .off w h (eqb-false w (k / 64) q)))
 
+    past-after : (i : ℕ) → 2 * (n / 64 + 1) ≤ i → getD after i 0 ≡ getD area i 0
+    past-after i h =
+        let e : n / 64 + 1 + (i - (n / 64 + 1)) ≡ i = omega arith in
+        at-rest after i e ∙ ap (λ (l : List ℕ). getD l (i - (n / 64 + 1)) 0) rest-after ∙ by .beyond (i - (n / 64 + 1)) (omega arith)
+        ∙ ap (λ (l : List ℕ). getD l (i - (n / 64 + 1)) 0) (part-rest (n / 64 + 1) (set area (k / 64) v) ∙ rest-same area n k v room below levels) ∙ sym (at-rest area i e)
+      where
+        at-rest : (l : List ℕ) (i : ℕ) → n / 64 + 1 + (i - (n / 64 + 1)) ≡ i → getD l i 0 ≡ getD (drop (n / 64 + 1) l) (i - (n / 64 + 1)) 0
+        at-rest l i e = sym (getD-drop (n / 64 + 1) l (i - (n / 64 + 1)) 0 ∙ ap (λ (j : ℕ). getD l j 0) e)
+
     mark-deep : Marked up area n k after
     mark-deep =
         record {
           levels = level {area = after} big (λ w h. rw rest-after (summary-after w h (eqb w (k / 64)) refl)) (rw rest-after (by .levels));
           members = members-by area after n k v up bits wrote-after;
+          beyond = past-after;
         }
 
 -- ---- the word that decides whether the summary changes: the old one where k is put in, the new one where it is taken out

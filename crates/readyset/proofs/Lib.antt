@@ -1,2 +1,4 @@
 pub mod Empty
 pub mod Levels
+pub mod Front
+pub mod Ends

@@ -1,6 +1,6 @@
 -- What a set of numbers in words of 64 bits holds, and the summaries after the words.
 -- Assumes nothing.
-use Prim.Native.Nat.{ℕ, _+_, _/_, _%_, _≤_, _<_}
+use Prim.Native.Nat.{ℕ, suc, _+_, _*_, _/_, _%_, _≤_, _<_}
 use mathlib.Core.Path.{_≡_}
 use mathlib.Core.Bool.{Bool, true, false, not}
 use mathlib.Core.List.{List}
@@ -28,7 +28,14 @@ pub record First (p : ℕ → Bool) (k n r : ℕ) : Type 0 where
   pub none : (j : ℕ) → k ≤ j → j < r → j < n → p j ≡ false
   pub here : r < n → p r ≡ true
 
--- the set with k, or without
+-- e is the end of the numbers below k that pass: the last one and 1, or 0
+pub record Last (p : ℕ → Bool) (k e : ℕ) : Type 0 where
+  pub upto : e ≤ k
+  pub none : (j : ℕ) → e ≤ j → j < k → p j ≡ false
+  pub here : (x : ℕ) → e ≡ suc x → p x ≡ true
+
+-- the set with k, or without; the words after the set and its summaries stay
 pub record Marked (up : Bool) (before : List ℕ) (n k : ℕ) (after : List ℕ) : Type 0 where
   pub levels : Levels after n
   pub members : (j : ℕ) → j < n → member after j ≡ updated up (member before j) (eqb j k)
+  pub beyond : (i : ℕ) → 2 * (n / 64 + 1) ≤ i → getD after i 0 ≡ getD before i 0

@@ -3,7 +3,7 @@
 ghost use Prim.Native.Nat.{_+_, _*_, _≤_, _<_};
 ghost use lib.ListN.{length};
 ghost use Rattle.laws.specs.Digits.{Turned};
-ghost use Rattle.readyset.specs.Sets.{member, Levels, First, Marked};
+ghost use Rattle.readyset.specs.Sets.{member, Levels, First, Last, Marked};
 
 // The first member from k on; n or more where there is none.
 pub fn next(area: &[usize], n: usize, k: usize) -> usize
@@ -27,6 +27,30 @@ pub fn next(area: &[usize], n: usize, k: usize) -> usize
         return n;
     }
     64 * found + usize::trailing_zeros(area[found]) as usize
+}
+
+// The end of the members below k: the last one and 1, or 0 where there is none.
+pub fn end(area: &[usize], n: usize, k: usize) -> usize
+    requires { ⌜ (n ≤ length (now area)) × (k ≤ n) × Levels (now area) n ⌝ }
+    ensures { λ r. ⌜ Last (member (now (area .entry))) k r ⌝ }
+{
+    if k == 0 {
+        return 0;
+    }
+    let w = k / 64;
+    let rest = area[w] & ((1 << (k % 64)) - 1);
+    if rest != 0 {
+        return 64 * w + (64 - usize::leading_zeros(rest) as usize);
+    }
+    if n < 64 {
+        return 0;
+    }
+    let m = n / 64 + 1;
+    let found = end(&area[m..], m, w);
+    if found == 0 {
+        return 0;
+    }
+    64 * (found - 1) + (64 - usize::leading_zeros(area[found - 1]) as usize)
 }
 
 // The word with the bit b set, or cleared.

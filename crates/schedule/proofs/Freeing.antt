@@ -271,8 +271,8 @@ module _ (src : ℕ → ℕ) (c : List Vertex) (taken area next : List ℕ) (p :
         heads = λ x h. moved .words (2 * x + 1) (omega arith) ∙ rel .heads x h;
         nexts = run .nexts;
         pends = λ q h. moved .words (2 * q) (omega arith) ∙ rel .pends q h ∙ over q;
-        levels = moved .changed .levels;
-        flags = λ q h. moved .changed .members q h ∙ ap (λ (t : Bool). t && not (eqb q p)) (rel .flags q h) ∙ strip (stillReady src c taken p 0 q) (eqb q p) (out q) ∙ ap (λ k. waits c (taken ++ p ∷ []) q && eqb k 0) (over q) ∙ sym (run .sourced .counts (taken ++ p ∷ []) q h);
+        levels = moved .levels;
+        flags = λ q h. moved .members q h ∙ ap (λ (t : Bool). t && not (eqb q p)) (rel .flags q h) ∙ strip (stillReady src c taken p 0 q) (eqb q p) (out q) ∙ ap (λ k. waits c (taken ++ p ∷ []) q && eqb k 0) (over q) ∙ sym (run .sourced .counts (taken ++ p ∷ []) q h);
         closed = still-closed;
         sourced = run .sourced;
       }

@@ -66,7 +66,7 @@ last-split x y z h = go (ltb y x) refl
     go true e = inl e
     go false e = inr (lt-ltb z y (omega (arith, ltb-true z x h, ltb-false y x e)))
 
-above-asym : (a b : Key) → above a b ≡ true → above b a ≡ true → ⊥
+pub above-asym : (a b : Key) → above a b ≡ true → above b a ≡ true → ⊥
 unfolding above
 above-asym a b p q =
     lex-asym (a .first) (b .first) _ _ (λ p₂ q₂. lex-asym (a .second) (b .second) _ _ (λ p₃ q₃. omega (arith, ltb-true (b .third) (a .third) p₃, ltb-true (a .third) (b .third) q₃)) p₂ q₂) p q
@@ -77,14 +77,14 @@ above-split a b d p =
     lex-split (a .first) (b .first) (d .first) _ _ _ (λ p₂. lex-split (a .second) (b .second) (d .second) _ _ _ (λ p₃. last-split (a .third) (b .third) (d .third) p₃) p₂) p
 
 -- the relation by which keys are ordered: no key above, one way
-not-above : (a b d : Key) → above a b ≡ false → above b d ≡ false → above a d ≡ false
+pub not-above : (a b d : Key) → above a b ≡ false → above b d ≡ false → above a d ≡ false
 not-above a b d p q = false-of (above a d) (λ h. go (above-split a b d h))
   where
     go : (above a b ≡ true) ⊎ (above b d ≡ true) → ⊥
     go (inl e) = clash e p
     go (inr e) = clash e q
 
-not-self : (a : Key) → above a a ≡ false
+pub not-self : (a : Key) → above a a ≡ false
 not-self a = false-of (above a a) (λ h. above-asym a a h h)
 
 pub best-greatest : (key : ℕ → Key) (b : ℕ) (ks : List ℕ) (k : ℕ) → elem k (b ∷ ks) ≡ true → above (key k) (key (best key b ks)) ≡ false
@@ -205,11 +205,11 @@ rising-take b zero l r = tt
 rising-take b (suc w) [] r = tt
 rising-take b (suc w) (x ∷ l) r = (r .0, rising-take x w l (r .1))
 
-abbrev Ascending : List ℕ → Type 0
+abbrev pub Ascending : List ℕ → Type 0
 Ascending [] = Unit
 Ascending (x ∷ l) = Rising x l
 
-ascending-numbers : (p : ℕ → Bool) (from n : ℕ) → Ascending (numbers p from n)
+pub ascending-numbers : (p : ℕ → Bool) (from n : ℕ) → Ascending (numbers p from n)
 unfolding numbers
 ascending-numbers p from zero = tt
 ascending-numbers p from (suc n) = go (p from) (ascending-numbers p (suc from) n)
@@ -223,7 +223,7 @@ ascending-take zero l r = tt
 ascending-take (suc w) [] r = tt
 ascending-take (suc w) (x ∷ l) r = rising-take x w l r
 
-pick-best : (key : ℕ → Key) (l : List ℕ) (p : ℕ) → Ascending l → pick key l ≡ some p → Best key l p
+pub pick-best : (key : ℕ → Key) (l : List ℕ) (p : ℕ) → Ascending l → pick key l ≡ some p → Best key l p
 unfolding pick
 pick-best key [] p r e = let z : _≡_ {A = ℕ} 0 1 = cc in absurd (omega arith)
 pick-best key (x ∷ l) p r e =

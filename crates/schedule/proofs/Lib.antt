@@ -15,3 +15,10 @@ pub mod Call
 pub mod Theorems
 pub mod Examples
 pub mod Seeing
+pub mod Winners
+pub mod Leaf
+pub mod Climb
+pub mod Ranking
+pub mod Keeping
+pub mod Root
+pub mod Windows

@@ -7,7 +7,7 @@ use mathlib.Core.List.{List, []}
 use native.Mathlib.Omega.{arith}
 use lib.Dec.{eqb}
 use lib.ListN.{length, getD, set, take, drop, replicate, length-set, length-drop}
-use lib.Seq.{getD-set-same, getD-set-other, drop-set-lt}
+use lib.Seq.{getD-set-same, getD-set-other, getD-drop, drop-set-lt}
 use borrow.Rule.Slice.PartMut.{putMid, midOf, same-len-mid}
 use Rattle.readyset.specs.Sets.{member, Levels, Marked}
 use Rattle.laws.proofs.Areas.{drop-replicate}
@@ -19,6 +19,7 @@ use Rattle.laws.proofs.Tests.{clash, or-true, or-false}
 use Rattle.laws.proofs.Lists.{one-less, numbers-same, numbers-empty, numbers-none, empty-of-length}
 use borrow.Author.Tests.{eq-eqb, ne-eqb, eqb-true, eqb-false}
 use Rattle.schedule.specs.declared.waiting.ReadyCells.{ReadyCells}
+use Rattle.schedule.specs.Tree.{Kept}
 use Rattle.schedule.specs.Areas.{readyIn, Counted, Moved, Noted, Empty, Opened, cellAt, both, linked, sourceOf}
 use Rattle.schedule.proofs.Order.{length-numbers}
 
@@ -34,8 +35,18 @@ module _ (n : ℕ) (area : List ℕ) (room : 3 * n ≤ length area) where
       record {
         size = same-len-mid (2 * n) (length area - 2 * n) area part e;
         words = put-words (2 * n) area part (omega arith);
-        changed = rw (put-rest (2 * n) area part (omega arith)) (rw (part-rest (2 * n) area) at by);
+        levels = rw (put-rest (2 * n) area part (omega arith)) (by .levels);
+        members = rw (put-rest (2 * n) area part (omega arith)) (rw (part-rest (2 * n) area) at (by .members));
       }
+
+  -- the words after the set stay
+  pub set-kept : (up : Bool) (k : ℕ) (part : List ℕ) → Marked up (take (length area - 2 * n) (drop (2 * n) area)) n k part → Kept n area (putMid (2 * n) (length area - 2 * n) area part)
+  set-kept up k part by i h =
+      let e : 2 * n + (i - 2 * n) ≡ i = omega arith in
+      at (putMid (2 * n) (length area - 2 * n) area part) e ∙ ap (λ (l : List ℕ). getD l (i - 2 * n) 0) (put-rest (2 * n) area part (omega arith)) ∙ by .beyond (i - 2 * n) (omega arith) ∙ ap (λ (l : List ℕ). getD l (i - 2 * n) 0) (part-rest (2 * n) area) ∙ sym (at area e)
+    where
+      at : (l : List ℕ) → 2 * n + (i - 2 * n) ≡ i → getD l i 0 ≡ getD (drop (2 * n) l) (i - 2 * n) 0
+      at l e = sym (getD-drop (2 * n) l (i - 2 * n) 0 ∙ ap (λ (j : ℕ). getD l j 0) e)
 
 -- the two ways out of `note`
 module _ (n : ℕ) (area : List ℕ) (room : 3 * n ≤ length area) (q v : ℕ) (below : q < n) where
@@ -61,19 +72,25 @@ module _ (n : ℕ) (area : List ℕ) (room : 3 * n ≤ length area) (q v : ℕ) 
         size = m .size ∙ length-set area (2 * q) v;
         words = λ i h u. m .words i h ∙ getD-set-other area (2 * q) i v 0 u;
         waiting = m .words (2 * q) (omega arith) ∙ getD-set-same area (2 * q) v 0 (omega arith);
-        levels = m .changed .levels;
-        members = λ j h. (rw rest-same at (m .changed .members)) j h ∙ ap (λ (s : Bool). member (drop (2 * n) area) j || s) (sym (ap (λ (s : Bool). eqb j q && s) e ∙ and-last (eqb j q)));
+        levels = m .levels;
+        members = λ j h. (rw rest-same at (m .members)) j h ∙ ap (λ (s : Bool). member (drop (2 * n) area) j || s) (sym (ap (λ (s : Bool). eqb j q && s) e ∙ and-last (eqb j q)));
       }
+
+  pub noted-kept : (after : List ℕ) → Kept n (set area (2 * q) v) after → Kept n area after
+  noted-kept after kept i h = kept i h ∙ getD-set-other area (2 * q) i v 0 (omega arith)
+
+  pub noted-still : Kept n area (set area (2 * q) v)
+  noted-still i h = getD-set-other area (2 * q) i v 0 (omega arith)
 
 -- how many are ready after one was put in, and after one was taken out
 
 module _ (n q : ℕ) (below : q < n) (was now : ℕ → Bool) where
-  tally-up : ((j : ℕ) → j < n → now j ≡ was j || eqb j q) → was q ≡ false → suc (length (numbers was 0 n)) ≡ length (numbers now 0 n)
+  pub tally-up : ((j : ℕ) → j < n → now j ≡ was j || eqb j q) → was q ≡ false → suc (length (numbers was 0 n)) ≡ length (numbers now 0 n)
   tally-up h e =
       one-less (λ j. was j || eqb j q) was 0 n q (omega arith) (omega arith) (rw (eq-eqb q q refl) (or-true (was q))) e (λ k z. sym (rw (ne-eqb k q z) (or-false (was k))))
       ∙ sym (ap length (numbers-same (λ j. was j || eqb j q) now 0 n (λ k a b. h k (omega arith))))
 
-  tally-down : ((j : ℕ) → j < n → now j ≡ was j && not (eqb j q)) → was q ≡ true → suc (length (numbers now 0 n)) ≡ length (numbers was 0 n)
+  pub tally-down : ((j : ℕ) → j < n → now j ≡ was j && not (eqb j q)) → was q ≡ true → suc (length (numbers now 0 n)) ≡ length (numbers was 0 n)
   tally-down h e =
       ap (λ (l : List ℕ). suc (length l)) (numbers-same (λ j. was j && not (eqb j q)) now 0 n (λ k a b. h k (omega arith)))
       ∙ one-less was (λ j. was j && not (eqb j q)) 0 n q (omega arith) (omega arith) e (rw (eq-eqb q q refl) (and-none (was q))) (λ k z. rw (ne-eqb k q z) (and-last (was k)))
@@ -97,14 +114,14 @@ module _ (n : ℕ) (area : List ℕ) (q v : ℕ) (below : q < n) (cells : ReadyC
       }
     where
       members : (j : ℕ) → j < n → member (drop (2 * n) after) j ≡ member (drop (2 * n) area) j || eqb j q
-      members = rw rest-kept at (m .changed .members)
+      members = rw rest-kept at (m .members)
 
 pub counted-taken : (n : ℕ) (area : List ℕ) (p : ℕ) → p < n → (cells : ReadyCells) → Counted n area cells → member (drop (2 * n) area) p ≡ true → (after : List ℕ) → Moved false n area p after → (r : ReadyCells) → r .from ≡ cells .from → r .number ≡ cells .number - 1 → Counted n after r
 counted-taken n area p below cells counted flag after m r low number =
     record {
       low = omega (arith, counted .low);
-      none = λ j h. m .changed .members j (omega (arith, counted .low)) ∙ rw (counted .none j (omega arith));
-      number = omega (arith, tally-down n p below (member (drop (2 * n) area)) (member (drop (2 * n) after)) (m .changed .members) flag, counted .number);
+      none = λ j h. m .members j (omega (arith, counted .low)) ∙ rw (counted .none j (omega arith));
+      number = omega (arith, tally-down n p below (member (drop (2 * n) area)) (member (drop (2 * n) after)) (m .members) flag, counted .number);
     }
 
 pub counted-none : (n : ℕ) (area : List ℕ) → Empty n area → (r : ReadyCells) → r .from ≡ n → r .number ≡ 0 → Counted n area r

@@ -15,16 +15,14 @@ use Rattle.circuit.specs.Graph.{Vertex, waits, ready, fit, readyCells}
 use Rattle.schedule.specs.Schedule.{pick, next as nextOf, scheduleFrom, scheduleOf}
 use Rattle.schedule.specs.Schedule.{keyAt}
 use Rattle.schedule.specs.Areas.{readyIn, Running, Releasable, Released, Startable, Scheduled}
+use Rattle.schedule.specs.Taking.{Taking, Took, Resumable, Finished}
+use Rattle.schedule.specs.Tree.{Fronted}
 use Rattle.readyset.specs.Sets.{member, Levels}
 use Rattle.laws.proofs.Tests.{clash}
 use Rattle.laws.proofs.Lists.{numbers-same}
 use Rattle.circuit.proofs.Graph.{fit-snoc, left, left-fit, left-none, ready-waits}
+use Rattle.schedule.proofs.Keeping.{fronted-member, fronted-levels}
 use Rattle.schedule.proofs.Order.{at-end, length-numbers, next-ready}
-
-pub record Taking (src : ℕ → ℕ) (c : List Vertex) (keys next : List ℕ) (window taken : ℕ) (order area : List ℕ) : Type 0 where
-  pub running : Running src c (take taken order) area next
-  pub fitting : fit c [] (take taken order) ≡ true
-  pub same : scheduleFrom c window (keyAt keys) (length c - taken) (take taken order) ≡ scheduleOf c window (keyAt keys)
 
 module _ (src : ℕ → ℕ) (c : List Vertex) (keys next : List ℕ) (window : ℕ) where
   flags-are : (taken area : List ℕ) → Running src c taken area next → readyIn (length c) area ≡ readyCells c taken
@@ -76,10 +74,6 @@ module _ (src : ℕ → ℕ) (c : List Vertex) (keys next : List ℕ) (window : 
 
 -- the same of any circuit that the areas fit, for the code
 
-abbrev pub Took : List ℕ → List ℕ → List ℕ → ℕ → ℕ → ℕ → List ℕ → List ℕ → Type 0
-Took start next keys count window taken order area =
-    (src : ℕ → ℕ) (c : List Vertex) → Running src c [] start next → length c ≡ count → Taking src c keys next window taken order area
-
 pub took-start : (start next keys : List ℕ) (count window : ℕ) (order : List ℕ) → Took start next keys count window 0 order start
 took-start start next keys count window order src c run e = taking-start src c keys next window order start run
 
@@ -105,6 +99,62 @@ module _ (start next keys : List ℕ) (count window taken : ℕ) (order area : L
 
     pub took-more : taken < length order → (after : List ℕ) → Released count area next p after → Took start next keys count window (taken + 1) (set order taken p) after
     took-more room after released src c run s = taking-more src c keys next window taken order area (took src c run s) few p (rw s picked) room after (subst (λ (n : ℕ). Released n area next p after) (sym s) released)
+
+-- a change of the tree alone
+
+running-fronted : (src : ℕ → ℕ) (c : List Vertex) (taken area next after : List ℕ) → Fronted (length c) area after → Running src c taken area next → Running src c taken after next
+running-fronted src c taken area next after f run =
+    record {
+      room = omega (arith, run .room, f .size);
+      links = run .links;
+      heads = λ x h. f .front (2 * x + 1) (omega arith) ∙ run .heads x h;
+      nexts = run .nexts;
+      pends = λ q h. f .front (2 * q) (omega arith) ∙ run .pends q h;
+      levels = fronted-levels (length c) area after f (run .levels);
+      flags = λ q h. fronted-member (length c) area after f q h ∙ run .flags q h;
+      closed = run .closed;
+      sourced = run .sourced;
+    }
+
+pub took-fronted : (start next keys : List ℕ) (count window taken : ℕ) (order area after : List ℕ) → Fronted count area after → Took start next keys count window taken order area → Took start next keys count window taken order after
+took-fronted start next keys count window taken order area after f took src c run s =
+    let t = took src c run s in
+    record { running = running-fronted src c (take taken order) area next after (subst (λ (n : ℕ). Fronted n area after) (sym s) f) (t .running); fitting = t .fitting; same = t .same }
+
+pub drop-later : (a b : List ℕ) (t r : ℕ) → t ≤ r → drop t a ≡ drop t b → drop r a ≡ drop r b
+drop-later a b t r h e =
+    let z : t + (r - t) ≡ r = omega arith in
+    sym (at a z) ∙ ap (drop (r - t)) e ∙ at b z
+  where
+    at : (l : List ℕ) → t + (r - t) ≡ r → drop (r - t) (drop t l) ≡ drop r l
+    at l z = drop-drop (r - t) t l ∙ ap (λ (k : ℕ). drop k l) z
+
+-- the same from a later place on
+
+abbrev pub Onward : ℕ → List ℕ → List ℕ → ℕ → ℕ → List ℕ → List ℕ → ℕ → List ℕ → List ℕ → Type 0
+Onward count next keys window taken₀ order₀ area₀ taken order area =
+    (start : List ℕ) → Startable count start next → Took start next keys count window taken₀ order₀ area₀ → Took start next keys count window taken order area
+
+pub onward-fronted : (count : ℕ) (next keys : List ℕ) (window taken₀ : ℕ) (order₀ area₀ : List ℕ) (taken : ℕ) (order area after : List ℕ) → Fronted count area after → Onward count next keys window taken₀ order₀ area₀ taken order area → Onward count next keys window taken₀ order₀ area₀ taken order after
+onward-fronted count next keys window taken₀ order₀ area₀ taken order area after f on start s t = took-fronted start next keys count window taken order area after f (on start s t)
+
+module _ (count : ℕ) (next keys : List ℕ) (window taken₀ : ℕ) (order₀ area₀ : List ℕ) (taken : ℕ) (order area : List ℕ) (on : Onward count next keys window taken₀ order₀ area₀ taken order area) where
+  pub resumed : Resumable count area₀ next keys window taken₀ order₀ → Resumable count area next keys window taken order
+  resumed r = record { start = r .start; startable = r .startable; took = on (r .start) (r .startable) (r .took) }
+
+  module _ (few : taken ≤ length order) where
+    pub onward-over : readyIn count area ≡ [] → Finished count area₀ next keys window taken₀ order₀ order taken
+    onward-over e start s t = took-over start next keys count window taken order area (on start s t) few e
+
+    pub onward-more : (p : ℕ) → some p ≡ pick (keyAt keys) (take window (readyIn count area)) → taken < length order → (after : List ℕ) → Released count area next p after → Onward count next keys window taken₀ order₀ area₀ (taken + 1) (set order taken p) after
+    onward-more p picked room after released start s t = took-more start next keys count window taken order area (on start s t) few p picked room after released
+
+module _ (count : ℕ) (area next keys : List ℕ) (window taken : ℕ) (order : List ℕ) (r : Resumable count area next keys window taken order) (few : taken ≤ length order) (p : ℕ) (picked : some p ≡ pick (keyAt keys) (take window (readyIn count area))) where
+  pub resumed-room : taken < count
+  resumed-room = took-room (r .start) next keys count window taken order area (r .took) few p picked (r .startable)
+
+  pub resumed-releasable : Releasable count area next p
+  resumed-releasable = took-releasable (r .start) next keys count window taken order area (r .took) few p picked (r .startable)
 
 pub drop-more : (order start : List ℕ) (t p : ℕ) → drop t order ≡ drop t start → drop (t + 1) (set order t p) ≡ drop (t + 1) start
 drop-more order start t p e = drop-set-lt (t + 1) order t p (omega arith) ∙ sym (drop-drop 1 t order) ∙ ap (drop 1) e ∙ drop-drop 1 t start

@@ -11,7 +11,8 @@ use lib.Dec.{eqb, ltb, leb}
 use lib.ListN.{length, getD, set, take, drop, replicate}
 use Rattle.laws.specs.Lists.{numbers}
 use Rattle.circuit.specs.Graph.{Vertex, isCell, waits, ready}
-use Rattle.readyset.specs.Sets.{member, Levels, Marked}
+use Rattle.laws.specs.Digits.{updated}
+use Rattle.readyset.specs.Sets.{member, Levels}
 use Rattle.schedule.specs.declared.keys.Key.{Key as KeyWords}
 use Rattle.schedule.specs.declared.waiting.ReadyCells.{ReadyCells}
 use Rattle.schedule.specs.declared.picking.Picked.{Picked}
@@ -102,11 +103,12 @@ pub record Counted (n : ℕ) (area : List ℕ) (cells : ReadyCells) : Type 0 whe
   pub none : (j : ℕ) → j < cells .from → member (drop (2 * n) area) j ≡ false
   pub number : cells .number ≡ length (readyIn n area)
 
--- the node k is put into the set of ready nodes, or taken out, and nothing else changes
+-- the node k is put into the set of ready nodes, or taken out, and nothing before the set changes
 pub record Moved (up : Bool) (n : ℕ) (area : List ℕ) (k : ℕ) (after : List ℕ) : Type 0 where
   pub size : length after ≡ length area
   pub words : (i : ℕ) → i < 2 * n → getD after i 0 ≡ getD area i 0
-  pub changed : Marked up (drop (2 * n) area) n k (drop (2 * n) after)
+  pub levels : Levels (drop (2 * n) after) n
+  pub members : (j : ℕ) → j < n → member (drop (2 * n) after) j ≡ updated up (member (drop (2 * n) area) j) (eqb j k)
 
 -- v reads of the node q wait, q is ready too where t is true, and nothing else changes
 pub record Noted (n : ℕ) (area : List ℕ) (q v : ℕ) (t : Bool) (after : List ℕ) : Type 0 where

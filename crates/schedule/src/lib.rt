@@ -11,8 +11,11 @@ pub mod keys;
 pub mod ordering;
 pub mod picking;
 pub mod reads;
+pub mod releasing;
 pub mod taking;
+pub mod tree;
 pub mod waiting;
+pub mod window;
 
 pub enum Ordered {
     Cells(usize),

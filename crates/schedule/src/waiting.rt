@@ -8,6 +8,7 @@ ghost use lib.ListN.{length, getD, drop};
 ghost use Rattle.readyset.specs.Sets.{Levels};
 ghost use Rattle.schedule.specs.Call.{graphIn};
 ghost use Rattle.schedule.specs.Areas.{Wired, sourceOf, Linked, Empty, Running, Counted, Moved, Noted, Notable, Lowered, Opened, Releasable, Released};
+ghost use Rattle.schedule.specs.Tree.{Kept};
 use crate::reads::cells_read;
 
 // What is known of the ready cells: none is below `from`, and `number` counts them.
@@ -36,7 +37,7 @@ pub fn with_cell(cells: ReadyCells, node: usize) -> ReadyCells
 // Puts the node into the set of ready nodes, or takes it out.
 pub fn mark_ready(area: &mut [usize], count: usize, node: usize, up: bool)
     requires { ⌜ (3 * count ≤ length (now area)) × (node < count) × Levels (drop (2 * count) (now area)) count ⌝ }
-    ensures { λ r. ⌜ Moved up count (now (area .entry)) node (now (area .exit)) ⌝ }
+    ensures { λ r. ⌜ Moved up count (now (area .entry)) node (now (area .exit)) × Kept count (now (area .entry)) (now (area .exit)) ⌝ }
 {
     let from = 2 * count;
     readyset::mark(&mut area[from..], count, node, up);
@@ -52,7 +53,7 @@ pub fn note(
     cells: ReadyCells,
 ) -> ReadyCells
     requires { ⌜ Notable count (now area) node cells ⌝ }
-    ensures { λ r. ⌜ Noted count (now (area .entry)) node left up (now (area .exit)) × Counted count (now (area .exit)) r ⌝ }
+    ensures { λ r. ⌜ Noted count (now (area .entry)) node left up (now (area .exit)) × Counted count (now (area .exit)) r × Kept count (now (area .entry)) (now (area .exit)) ⌝ }
 {
     area[2 * node] = left;
     if up {
@@ -65,7 +66,7 @@ pub fn note(
 // One read less of the node waits; the last one makes it ready.
 pub fn lower(area: &mut [usize], count: usize, node: usize, cells: ReadyCells) -> ReadyCells
     requires { ⌜ Notable count (now area) node cells × (1 ≤ getD (now area) (2 * node) 0) ⌝ }
-    ensures { λ r. ⌜ Lowered count (now (area .entry)) node (now (area .exit)) × Counted count (now (area .exit)) r ⌝ }
+    ensures { λ r. ⌜ Lowered count (now (area .entry)) node (now (area .exit)) × Counted count (now (area .exit)) r × Kept count (now (area .entry)) (now (area .exit)) ⌝ }
 {
     let left = area[2 * node] - 1;
     note(area, count, node, left, left == 0, cells)

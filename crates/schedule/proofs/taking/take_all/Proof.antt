@@ -1,68 +1,50 @@
--- The proof of `take_all`.
+-- `take_all`: where cells are left, the tree takes over.
 -- Assumes nothing.
-use Prim.Native.Nat.{_≤_, _-_}
-use mathlib.Core.Path.{_≡_, refl, _∙_}
+use mathlib.Core.Path.{_∙_}
 use native.Mathlib.Omega.{arith}
-use lib.ListN.{length, drop, length-set}
-use Rattle.schedule.specs.Areas.{Counted}
 use Rattle.schedule.proofs.Moving.{counted-over}
-use Rattle.schedule.proofs.Steps.{Took, took-start, took-pickable, took-over, took-room, took-releasable, took-more, drop-more}
+use Rattle.schedule.proofs.Steps.{took-over, took-pickable, took-fronted, drop-later}
+use borrow.Author.Needs.{needs}
 use Rattle.schedule.proofs.taking.take_all.Statement.{statement}
 use Rattle.schedule.proofs.taking.take_all.Tie as tie
 
-abbrev Inv-loop : tie.InvT-loop
-Inv-loop area₀ next keys order₀ count window taken₀ cells₀ area order taken cells = Took area₀ next keys count window taken order area × (taken ≤ length order) × (length order ≡ length order₀) × (length area ≡ length area₀) × (drop taken order ≡ drop taken order₀) × Counted count area cells
+take-scanning-requires : tie.Need-take-scanning-requires
+take-scanning-requires c κs = search needs
 
-abbrev μ-loop : tie.MeasureT-loop
-μ-loop area₀ next keys order₀ count window taken₀ cells₀ area order taken cells = count - taken
+same-length : tie.Need-same-length
+same-length c = search needs
 
-loop-holds : tie.Need-loop-holds Inv-loop μ-loop
-loop-holds c = (took-start _ _ _ _ _ _, omega arith, refl, refl, refl, c .before .before .before .before .pre .4)
+same-length-2 : tie.Need-same-length-2
+same-length-2 c = search needs
 
-pick-next-requires : tie.Need-pick-next-requires Inv-loop μ-loop
-pick-next-requires c κs = let t = took-pickable _ _ _ _ _ _ _ _ (c .before .before .before .loop .inv .0) (c .before .before .before .before .before .before .before .before .pre .0) in (t .room, c .before .before .before .before .before .before .before .before .pre .1, t .levels, c .before .before .before .before .before .before .before .before .pre .3, omega (arith, c .before .if1 .taken), c .before .before .before .loop .inv .5)
+returns : tie.Need-returns
+returns c = (took-over _ _ _ _ _ _ _ _ (c .before .before .before .before .before .before .take-scanning .ensures .0) (c .before .before .before .before .before .before .take-scanning .ensures .1) (counted-over _ _ _ (c .before .before .before .before .before .before .take-scanning .ensures .3) (c .if1 .taken)), c .before .before .before .before .before .before .take-scanning .ensures .2)
 
-mul-order : tie.Need-mul-order Inv-loop μ-loop
-mul-order c = omega (arith, took-room _ _ _ _ _ _ _ _ (c .before .before .before .before .loop .inv .0) (c .before .before .before .before .loop .inv .1) _ (c .pick-next .ensures .node-is) (c .before .before .before .before .before .before .before .before .before .pre .0))
+ranked-window-requires : tie.Need-ranked-window-requires
+ranked-window-requires c κs = let t = took-pickable _ _ _ _ _ _ _ _ (c .before .before .before .before .before .before .before .take-scanning .ensures .0) (c .before .before .before .before .before .before .before .before .before .before .before .before .before .before .pre .0) in (c .before .before .before .before .before .before .before .take-scanning .ensures .4 (c .before .if1 .left), t .room, c .before .before .before .before .before .before .before .before .before .before .before .before .before .before .pre .1, t .levels, c .before .before .before .before .before .before .before .take-scanning .ensures .3)
 
-slice-write-order : tie.Need-slice-write-order Inv-loop μ-loop
-slice-write-order c = omega (arith, took-room _ _ _ _ _ _ _ _ (c .before .before .before .before .loop .inv .0) (c .before .before .before .before .loop .inv .1) _ (c .pick-next .ensures .node-is) (c .before .before .before .before .before .before .before .before .before .pre .0), c .before .before .before .before .before .before .before .before .before .pre .2, c .before .before .before .before .loop .inv .2)
+take-ranked-requires : tie.Need-take-ranked-requires
+take-ranked-requires c κs = (record { start = c .before .before .before .before .before .before .before .before .before .before .before .before .before .before .before .before .before .before .before .args .area .now; startable = c .before .before .before .before .before .before .before .before .before .before .before .before .before .before .before .before .before .before .before .pre .0; took = took-fronted _ _ _ _ _ _ _ _ _ (c .before .before .before .before .ranked-window .ensures .2) (c .before .before .before .before .before .before .before .before .before .before .before .before .take-scanning .ensures .0) }, c .before .before .before .before .before .before .before .before .before .before .before .before .before .before .before .before .before .before .before .pre .1, omega (arith, c .before .before .before .before .before .before .before .before .before .before .before .before .before .before .before .before .before .before .before .pre .2, c .before .before .before .before .before .before .before .before .before .before .before .before .take-scanning .kept .1), c .before .before .before .before .before .before .before .before .before .before .before .before .before .before .before .before .before .before .before .pre .3, c .before .before .before .before .before .before .before .before .before .before .before .before .take-scanning .ensures .1, c .before .before .before .before .ranked-window .ensures .0, c .before .before .before .before .ranked-window .ensures .1)
 
-add-taken : tie.Need-add-taken Inv-loop μ-loop
-add-taken c = omega (arith, took-room _ _ _ _ _ _ _ _ (c .before .before .before .before .loop .inv .0) (c .before .before .before .before .loop .inv .1) _ (c .pick-next .ensures .node-is) (c .before .before .before .before .before .before .before .before .before .pre .0))
+same-length-3 : tie.Need-same-length-3
+same-length-3 c = search needs
 
-release-requires : tie.Need-release-requires Inv-loop μ-loop
-release-requires c κs = (took-releasable _ _ _ _ _ _ _ _ (c .before .before .before .before .before .loop .inv .0) (c .before .before .before .before .before .loop .inv .1) _ (c .before .pick-next .ensures .node-is) (c .before .before .before .before .before .before .before .before .before .before .pre .0), record { low = c .before .pick-next .ensures .low; none = c .before .pick-next .ensures .none; number = c .before .before .before .before .before .loop .inv .5 .number })
+same-length-4 : tie.Need-same-length-4
+same-length-4 c = search needs
 
-loop-less : tie.Need-loop-less Inv-loop μ-loop
-loop-less c = omega (arith, took-room _ _ _ _ _ _ _ _ (c .before .before .before .before .before .before .before .before .loop .inv .0) (c .before .before .before .before .before .before .before .before .loop .inv .1) _ (c .before .before .before .before .pick-next .ensures .node-is) (c .before .before .before .before .before .before .before .before .before .before .before .before .before .pre .0))
-
-loop-again : tie.Need-loop-again Inv-loop μ-loop
-loop-again c = let r = took-room _ _ _ _ _ _ _ _ (c .before .before .before .before .before .before .before .before .loop .inv .0) (c .before .before .before .before .before .before .before .before .loop .inv .1) _ (c .before .before .before .before .pick-next .ensures .node-is) (c .before .before .before .before .before .before .before .before .before .before .before .before .before .pre .0) in (took-more _ _ _ _ _ _ _ _ (c .before .before .before .before .before .before .before .before .loop .inv .0) (c .before .before .before .before .before .before .before .before .loop .inv .1) _ (c .before .before .before .before .pick-next .ensures .node-is) (omega (arith, r, c .before .before .before .before .before .before .before .before .before .before .before .before .before .pre .2, c .before .before .before .before .before .before .before .before .loop .inv .2)) _ (c .before .before .release .ensures .0), simp length-set (omega (arith, r, c .before .before .before .before .before .before .before .before .before .before .before .before .before .pre .2, c .before .before .before .before .before .before .before .before .loop .inv .2)), simp length-set (c .before .before .before .before .before .before .before .before .loop .inv .2), c .before .before .release .kept .0 ∙ c .before .before .before .before .before .before .before .before .loop .inv .3, drop-more (c .before .before .before .before .before .before .before .before .loop .order) (c .before .before .before .before .before .before .before .before .before .before .before .before .before .args .order .now) (c .before .before .before .before .before .before .before .before .loop .taken) _ (c .before .before .before .before .before .before .before .before .loop .inv .4), c .before .before .release .ensures .1)
-
-same-length : tie.Need-same-length Inv-loop μ-loop
-same-length c = c .before .before .loop .inv .3
-
-same-length-2 : tie.Need-same-length-2 Inv-loop μ-loop
-same-length-2 c = c .before .before .loop .inv .2
-
-returns : tie.Need-returns Inv-loop μ-loop
-returns c = (took-over _ _ _ _ _ _ _ _ (c .before .before .loop .inv .0) (c .before .before .loop .inv .1) (counted-over _ _ _ (c .before .before .loop .inv .5) (c .if1 .left)), c .before .before .loop .inv .4)
+returns-2 : tie.Need-returns-2
+returns-2 c = (c .before .before .before .before .take-ranked .ensures .0 (c .before .before .before .before .before .before .before .before .before .before .before .before .before .before .before .before .before .before .before .before .before .before .before .before .args .area .now) (c .before .before .before .before .before .before .before .before .before .before .before .before .before .before .before .before .before .before .before .before .before .before .before .before .pre .0) (took-fronted _ _ _ _ _ _ _ _ _ (c .before .before .before .before .before .before .before .before .before .ranked-window .ensures .2) (c .before .before .before .before .before .before .before .before .before .before .before .before .before .before .before .before .before .take-scanning .ensures .0)), c .before .before .before .before .take-ranked .ensures .1 .1 ∙ drop-later _ _ _ _ (c .before .before .before .before .take-ranked .ensures .1 .0) (c .before .before .before .before .before .before .before .before .before .before .before .before .before .before .before .before .before .take-scanning .ensures .2))
 
 pub take-all-spec : {M : Type 1} → statement M
 take-all-spec =
     tie.close
     (tie.spec
-    Inv-loop
-    μ-loop
-    loop-holds
-    pick-next-requires
-    mul-order
-    slice-write-order
-    add-taken
-    release-requires
-    loop-less
-    loop-again
+    take-scanning-requires
     same-length
     same-length-2
-    returns)
+    returns
+    ranked-window-requires
+    take-ranked-requires
+    same-length-3
+    same-length-4
+    returns-2)

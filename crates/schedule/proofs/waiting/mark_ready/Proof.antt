@@ -1,6 +1,6 @@
 -- The proof of `mark_ready`.
 -- Assumes nothing.
-use Rattle.schedule.proofs.Moving.{set-room, set-levels, set-moved}
+use Rattle.schedule.proofs.Moving.{set-room, set-levels, set-moved, set-kept}
 use borrow.Author.Needs.{needs}
 use Rattle.schedule.proofs.waiting.mark_ready.Statement.{statement}
 use Rattle.schedule.proofs.waiting.mark_ready.Tie as tie
@@ -27,7 +27,7 @@ same-length : tie.Need-same-length
 same-length c = search needs
 
 returns : tie.Need-returns
-returns c = set-moved _ _ (c .before .before .before .before .before .pre .0) _ _ _ (c .before .before .mark .kept .0) (c .before .before .mark .ensures)
+returns c = (set-moved _ _ (c .before .before .before .before .before .pre .0) _ _ _ (c .before .before .mark .kept .0) (c .before .before .mark .ensures), set-kept _ _ (c .before .before .before .before .before .pre .0) _ _ _ (c .before .before .mark .ensures))
 
 pub mark-ready-spec : {M : Type 1} → statement M
 mark-ready-spec =

@@ -3,7 +3,7 @@
 use mathlib.Core.Path.{_∙_}
 use native.Mathlib.Omega.{arith}
 use lib.ListN.{length-set}
-use Rattle.schedule.proofs.Moving.{note-levels, noted-up, noted-down, counted-few, counted-up, counted-down}
+use Rattle.schedule.proofs.Moving.{note-levels, noted-up, noted-down, noted-kept, noted-still, counted-few, counted-up, counted-down}
 use borrow.Author.Needs.{needs}
 use Rattle.schedule.proofs.waiting.note.Statement.{statement}
 use Rattle.schedule.proofs.waiting.note.Tie as tie
@@ -24,16 +24,16 @@ with-cell-requires : tie.Need-with-cell-requires
 with-cell-requires c κs = omega (arith, counted-few _ _ _ (c .before .before .before .before .before .before .pre .counted), c .before .before .before .before .before .before .pre .room)
 
 same-length : tie.Need-same-length
-same-length c = c .before .before .before .mark-ready .ensures .size ∙ length-set (c .before .before .before .before .before .before .before .args .area .now) _ _
+same-length c = c .before .before .before .mark-ready .ensures .0 .size ∙ length-set (c .before .before .before .before .before .before .before .args .area .now) _ _
 
 returns : tie.Need-returns
-returns c = (noted-up _ _ (c .before .before .before .before .before .before .before .pre .room) _ _ (c .before .before .before .before .before .before .before .pre .below) _ (c .before .before .before .before .before .if1 .taken) _ (c .before .before .before .mark-ready .ensures), counted-up _ _ _ _ (c .before .before .before .before .before .before .before .pre .below) _ (c .before .before .before .before .before .before .before .pre .counted) (c .before .before .before .before .before .before .before .pre .fresh) _ (c .before .before .before .mark-ready .ensures) _ (c .with-cell .ensures .0) (c .with-cell .ensures .1))
+returns c = (noted-up _ _ (c .before .before .before .before .before .before .before .pre .room) _ _ (c .before .before .before .before .before .before .before .pre .below) _ (c .before .before .before .before .before .if1 .taken) _ (c .before .before .before .mark-ready .ensures .0), counted-up _ _ _ _ (c .before .before .before .before .before .before .before .pre .below) _ (c .before .before .before .before .before .before .before .pre .counted) (c .before .before .before .before .before .before .before .pre .fresh) _ (c .before .before .before .mark-ready .ensures .0) _ (c .with-cell .ensures .0) (c .with-cell .ensures .1), noted-kept (c .before .before .before .before .before .before .before .args .count) (c .before .before .before .before .before .before .before .args .area .now) (c .before .before .before .before .before .before .before .pre .room) (c .before .before .before .before .before .before .before .args .node) (c .before .before .before .before .before .before .before .args .left) (c .before .before .before .before .before .before .before .pre .below) (c .before .before .before .mark-ready .last .0) (c .before .before .before .mark-ready .ensures .1))
 
 same-length-2 : tie.Need-same-length-2
 same-length-2 c = search needs
 
 returns-2 : tie.Need-returns-2
-returns-2 c = (noted-down _ _ (c .before .before .pre .room) _ _ (c .before .before .pre .below) (c .before .before .pre .levels) _ (c .if1 .left), counted-down _ _ _ _ (c .before .before .pre .below) _ (c .before .before .pre .counted))
+returns-2 c = (noted-down _ _ (c .before .before .pre .room) _ _ (c .before .before .pre .below) (c .before .before .pre .levels) _ (c .if1 .left), counted-down _ _ _ _ (c .before .before .pre .below) _ (c .before .before .pre .counted), noted-still (c .before .before .args .count) (c .before .before .args .area .now) (c .before .before .pre .room) (c .before .before .args .node) (c .before .before .args .left) (c .before .before .pre .below))
 
 pub note-spec : {M : Type 1} → statement M
 note-spec =

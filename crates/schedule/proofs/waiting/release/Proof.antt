@@ -55,10 +55,10 @@ sub-t8 : tie.Need-sub-t8 Inv-loop μ-loop
 sub-t8 c = let t = takable _ _ _ _ _ _ (c .before .before .before .before .before .before .loop .inv .0) (c .before .before .before .before .before .before .before .before .before .before .pre .0) in counted-some _ _ _ (c .before .before .before .before .before .before .loop .inv .2) _ (t .below) (t .flag)
 
 same-length : tie.Need-same-length Inv-loop μ-loop
-same-length c = c .before .before .before .mark-ready .ensures .size ∙ c .before .before .before .before .before .before .loop .inv .1
+same-length c = c .before .before .before .mark-ready .ensures .0 .size ∙ c .before .before .before .before .before .before .loop .inv .1
 
 returns : tie.Need-returns Inv-loop μ-loop
-returns c = let t = takable _ _ _ _ _ _ (c .before .before .before .before .before .before .loop .inv .0) (c .before .before .before .before .before .before .before .before .before .before .pre .0) in (descended _ _ _ _ _ _ (c .before .before .before .before .before .before .loop .inv .0) (c .before .before .before .before .before .loop-test .left) _ (c .before .before .before .mark-ready .ensures), counted-taken _ _ _ (t .below) _ (c .before .before .before .before .before .before .loop .inv .2) (t .flag) _ (c .before .before .before .mark-ready .ensures) _ refl refl)
+returns c = let t = takable _ _ _ _ _ _ (c .before .before .before .before .before .before .loop .inv .0) (c .before .before .before .before .before .before .before .before .before .before .pre .0) in (descended _ _ _ _ _ _ (c .before .before .before .before .before .before .loop .inv .0) (c .before .before .before .before .before .loop-test .left) _ (c .before .before .before .mark-ready .ensures .0), counted-taken _ _ _ (t .below) _ (c .before .before .before .before .before .before .loop .inv .2) (t .flag) _ (c .before .before .before .mark-ready .ensures .0) _ refl refl)
 
 pub release-spec : {M : Type 1} → statement M
 release-spec =
