@@ -1,72 +1,107 @@
--- The laws of `evaluate`: a cell's entry, and a turn of the loop over the nodes.
+-- The laws of `evaluate`: a cell's entry, and the two-valued storage order.
 -- Assumes nothing.
-use mathlib.Core.Path.{_≡_, sym, ap, ap₂, _∙_}
-use mathlib.Core.List.{List, [], _∷_, _++_, map}
-use mathlib.Core.Bool.{Bool, true, false, cond}
+use mathlib.Core.Path.{_≡_, refl, sym, ap, _∙_, subst}
+use mathlib.Core.List.{List, [], _∷_, map}
+use mathlib.Core.Bool.{true, false}
 use Prim.Native.Nat.{ℕ, zero, suc, _+_, _*_, _<_, _≤_}
-use native.Mathlib.Numerals.{add-one}
+use native.Mathlib.Nat.{zero-add}
 use native.Mathlib.Omega.{arith}
 use lib.Dec.{ltb}
-use borrow.Author.Tests.{ltb-false, leb-false}
-use lib.ListN.{length, getD, set, take}
-use lib.Seq.{take-suc-set, getD-take}
+use borrow.Author.Tests.{eq-eqb, ltb-false, leb-false, le-ltb}
+use lib.ListN.{length, getD}
 use Rattle.laws.specs.Lists.{some}
-use Rattle.laws.proofs.Areas.{up-more}
-use Rattle.laws.proofs.Tests.{neither}
+use Rattle.laws.proofs.Tests.{neither, clash, false-of}
 use Rattle.circuit.specs.declared.records.BoolWire.{BoolWire}
 use Rattle.circuit.specs.declared.records.BoolWire.the-variants.{Const, Node}
 use Rattle.circuit.specs.declared.records.BoolNode.{BoolNode}
-use Rattle.circuit.specs.Records.{nodeAt, isCellNode, wiresOf}
-use Rattle.circuit.specs.Check.{recordBroken, notBelow, someNotBelow}
+use Rattle.circuit.specs.Records.{nodeAt, nodesOf, isCellNode, noNode, wiresOf}
+use Rattle.circuit.specs.Check.{notBelow, someNotBelow, nodeBroken}
+use Rattle.circuit.specs.Graph.{graphOf, waits}
+use Rattle.circuit.proofs.Codes.{length-nodes, node-of}
+use Rattle.circuit.proofs.Graph.{waits-cell}
+use Rattle.circuit.proofs.Circuits.{cell-at}
 use Rattle.cells.specs.Cells.{entry, indexFrom}
-use Rattle.runs.specs.Values.{signalValue, entryOf, valuesFrom, outputsFrom}
-use Rattle.runs.specs.Work.{valueOf}
-use Rattle.runs.proofs.Storage.{wires-below}
+use Rattle.cells.proofs.Rule.{entry-bit}
+use Rattle.runs.specs.Values.{signalValue, answerOf, entryOf, outputsFrom, storageValues, storageOutputs, evaluated}
+use Rattle.runs.specs.Fit.{Accepted}
+use Rattle.runs.specs.Work.{EntryIs}
+use Rattle.runs.specs.Steps.{Standing}
+use Rattle.runs.proofs.Storage.{Known, wires-below, value-cell, answer-entry, values-known, values-same, evaluate-same}
 use Rattle.runs.proofs.Stepping.{wires-one, wires-two}
-use Rattle.runs.proofs.Turns.{from}
+use Rattle.runs.proofs.Rules.{one-unbroken, two-rules, two-unbroken}
+use Rattle.runs.proofs.Turns.{accepted-at}
 
--- ---- a cell
+-- ---- a cell's entry
 
 pub wire-bit : (s : List ℕ) (k : ℕ) → ((i : ℕ) → i < k → getD s i 0 < 2) → (w : BoolWire) → notBelow k w ≡ false → signalValue s w < 2
 wire-bit s k h (Const true) e = omega arith
 wire-bit s k h (Const false) e = omega arith
 wire-bit s k h (Node n) e = h (n .0) (leb-false k (n .0) e)
 
-pub entry-one : (n : BoolNode) (s : List ℕ) (v r : ℕ) → isCellNode n ≡ true → n .count ≡ 1 → v ≡ signalValue s (n .first) → r ≡ entry (n .table) v → r ≡ entryOf s n
-unfolding entryOf indexFrom
-entry-one n s v r c e p q =
-    let i : v ≡ 2 * 0 + signalValue s (n .first) = omega (arith, p) in
-    q ∙ ap (entry (n .table)) i ∙ ap (λ (ws : List BoolWire). entry (n .table) (indexFrom 0 (map (signalValue s) ws))) (sym (wires-one n c e))
+module _ (k : ℕ) (n : BoolNode) (s : List ℕ) where
+  pub entry-broken : true ≡ nodeBroken k n → EntryIs k n s 2
+  entry-broken e = record { sound = λ h. absurd (omega (arith, h)); entry = λ h. absurd (omega (arith, h)); broken = λ h. sym e }
 
-pub entry-two : (n : BoolNode) (s : List ℕ) (v w r : ℕ) → isCellNode n ≡ true → recordBroken n ≡ false → (n .count ≡ 1 → ⊥) → v ≡ signalValue s (n .first) → w ≡ signalValue s (n .second) → r ≡ entry (n .table) (2 * v + w) → r ≡ entryOf s n
-unfolding entryOf indexFrom
-entry-two n s v w r c u e p q g =
-    let i : 2 * v + w ≡ 2 * (2 * 0 + signalValue s (n .first)) + signalValue s (n .second) = omega (arith, p, q) in
-    g ∙ ap (entry (n .table)) i ∙ ap (λ (ws : List BoolWire). entry (n .table) (indexFrom 0 (map (signalValue s) ws))) (sym (wires-two n c u e))
+  module _ (kind : n .kind ≡ 2) (v : ℕ) (p : v ≡ signalValue s (n .first)) (f : notBelow k (n .first) ≡ false) where
+    cell : isCellNode n ≡ true
+    unfolding isCellNode
+    cell = eq-eqb (n .kind) 2 kind
 
--- ---- a turn
+    pub entry-one : n .count ≡ 1 → n .table < 4 → (r : ℕ) → r ≡ entry (n .table) v → EntryIs k n s r
+    unfolding entryOf indexFrom
+    entry-one one h r q =
+        let i : v ≡ 2 * 0 + signalValue s (n .first) = omega (arith, p) in
+        record {
+          sound = λ l. sym (one-unbroken k n kind one h f);
+          entry = λ l. q ∙ ap (entry (n .table)) i ∙ ap (λ (ws : List BoolWire). entry (n .table) (indexFrom 0 (map (signalValue s) ws))) (sym (wires-one n cell one));
+          broken = λ l. absurd (omega (arith, l, q, entry-bit (n .table) v));
+        }
+
+    pub entry-two : n .count ≡ 2 → n .table < 16 → (w : ℕ) → w ≡ signalValue s (n .second) → notBelow k (n .second) ≡ false → (r : ℕ) → r ≡ entry (n .table) (2 * v + w) → EntryIs k n s r
+    unfolding entryOf indexFrom
+    entry-two two h w q e r g =
+        let i : 2 * v + w ≡ 2 * (2 * 0 + signalValue s (n .first)) + signalValue s (n .second) = omega (arith, p, q) in
+        record {
+          sound = λ l. sym (two-unbroken k n kind two h f e);
+          entry = λ l. g ∙ ap (entry (n .table)) i ∙ ap (λ (ws : List BoolWire). entry (n .table) (indexFrom 0 (map (signalValue s) ws))) (sym (wires-two n cell (two-rules k n kind two h f) (λ z. omega (arith, two, z))));
+          broken = λ l. absurd (omega (arith, l, g, entry-bit (n .table) (2 * v + w)));
+        }
+
+-- ---- a node's value
 
 entry-below : (s t : List ℕ) (k : ℕ) → ((i : ℕ) → i < k → getD s i 0 ≡ getD t i 0) → (n : BoolNode) → someNotBelow k (wiresOf n) ≡ false → entryOf s n ≡ entryOf t n
 unfolding entryOf
 entry-below s t k e n h = ap (λ (l : List ℕ). entry (n .table) (indexFrom 0 l)) (wires-below s t k e (wiresOf n) h)
 
-pub value-turn : (nodes : List ℕ) (count : ℕ) (assignment : List ℕ) (p : ℕ) (s : List ℕ) (k r : ℕ) (after : List ℕ) → k < count → k < length s → someNotBelow k (wiresOf (nodeAt nodes k)) ≡ false
-    → after ≡ set s k (valueOf nodes k assignment p s) → r ≡ cond (isCellNode (nodeAt nodes k)) p (p + 1)
-    → valuesFrom entryOf assignment p (take k s) (from nodes count k) ≡ valuesFrom entryOf assignment r (take (k + 1) after) (from nodes count (k + 1))
-unfolding valuesFrom
-value-turn nodes count assignment p s k r after h l w e f =
-    ap (valuesFrom entryOf assignment p (take k s)) (up-more (nodeAt nodes) k count h)
-    ∙ go (isCellNode (nodeAt nodes k))
-    ∙ ap₂ (λ (q : ℕ) (vs : List ℕ). valuesFrom entryOf assignment q vs (from nodes count (k + 1))) (sym f)
-    (sym (ap (take (k + 1)) e ∙ ap (λ (j : ℕ). take j (set s k (valueOf nodes k assignment p s))) (add-one k) ∙ take-suc-set s k (valueOf nodes k assignment p s) l))
-  where
-    same : entryOf (take k s) (nodeAt nodes k) ≡ entryOf s (nodeAt nodes k)
-    same = entry-below (take k s) s k (λ i g. getD-take k s i 0 g) (nodeAt nodes k) w
+pub storage-known : (ns : List BoolNode) (a : List ℕ) → Known a → Known (storageValues ns a)
+unfolding storageValues
+storage-known ns a h = subst Known (sym (values-same a h ns 0 [] (λ k. omega arith))) (values-known a h ns 0 [] (λ k. omega arith))
 
-    go : (b : Bool) → cond b (valuesFrom entryOf assignment p (take k s ++ entryOf (take k s) (nodeAt nodes k) ∷ []) (from nodes count (k + 1))) (valuesFrom entryOf assignment (suc p) (take k s ++ getD assignment p 0 ∷ []) (from nodes count (k + 1)))
-        ≡ valuesFrom entryOf assignment (cond b p (p + 1)) (take k s ++ cond b (entryOf s (nodeAt nodes k)) (getD assignment p 0) ∷ []) (from nodes count (k + 1))
-    go true = ap (λ (v : ℕ). valuesFrom entryOf assignment p (take k s ++ v ∷ []) (from nodes count (k + 1))) same
-    go false = ap (λ (q : ℕ). valuesFrom entryOf assignment q (take k s ++ getD assignment p 0 ∷ []) (from nodes count (k + 1))) (sym (add-one p))
+module _ (nodes : List ℕ) (count : ℕ) (ok : Accepted nodes count) (a : List ℕ) (k : ℕ) (h : k < count) where
+  inside : k < length (nodesOf nodes count)
+  inside = omega (arith, h, length-nodes nodes count)
+
+  -- a cell's entry on the values before it
+  pub cell-value : Known a → (s : List ℕ) → ((i : ℕ) → i < k → getD s i 0 ≡ getD (storageValues (nodesOf nodes count) a) i 0) → isCellNode (nodeAt nodes k) ≡ true
+      → entryOf s (nodeAt nodes k) ≡ getD (storageValues (nodesOf nodes count) a) k 0
+  unfolding storageValues
+  cell-value known s e c =
+      let ns = nodesOf nodes count in
+      let n : getD ns k noNode ≡ nodeAt nodes k = node-of nodes count k h in
+      let w : someNotBelow k (wiresOf (nodeAt nodes k)) ≡ false = accepted-at nodes count ok k h .earlier in
+      entry-below s (storageValues ns a) k e (nodeAt nodes k) w ∙ sym (answer-entry (storageValues ns a) (storage-known ns a known) (nodeAt nodes k))
+      ∙ sym (ap (λ (i : ℕ). getD (storageValues ns a) i 0) (sym (zero-add k))
+      ∙ value-cell a ns 0 [] k inside (ap isCellNode n ∙ c) (subst (λ (i : ℕ). someNotBelow i (wiresOf (getD ns k noNode)) ≡ false) (sym (zero-add k)) (ap (λ (m : BoolNode). someNotBelow k (wiresOf m)) n ∙ w))
+      ∙ ap (answerOf (storageValues ns a)) n)
+
+  -- an input's value stands
+  pub other-value : (before : List ℕ) → Standing (nodesOf nodes count) a [] before → isCellNode (nodeAt nodes k) ≡ false → getD before k 0 ≡ getD (storageValues (nodesOf nodes count) a) k 0
+  other-value before st c =
+      st .right k inside
+      (false-of (waits (graphOf (nodesOf nodes count)) [] k)
+      (λ w. clash (ap isCellNode (sym (node-of nodes count k h)) ∙ sym (cell-at (nodesOf nodes count) k) ∙ waits-cell (graphOf (nodesOf nodes count)) [] k w) c))
+
+-- ---- assignments
 
 pub assigned-below : (top : ℕ) (assignment : List ℕ) → some (ltb top) assignment ≡ false → (i : ℕ) → getD assignment i 0 ≤ top
 assigned-below top [] e i = omega arith
@@ -76,6 +111,14 @@ assigned-below top (v ∷ vs) e (suc i) = assigned-below top vs (neither (ltb to
 pub assigned-bits : (assignment : List ℕ) → some (ltb 1) assignment ≡ false → (i : ℕ) → getD assignment i 0 < 2
 assigned-bits assignment e i = omega (arith, assigned-below 1 assignment e i)
 
-pub values-outputs : (values vs : List ℕ) (count : ℕ) (os : List BoolWire) → take count values ≡ vs → someNotBelow count os ≡ false → outputsFrom values os ≡ outputsFrom vs os
-unfolding outputsFrom
-values-outputs values vs count os e h = wires-below values vs count (λ i g. sym (getD-take count values i 0 g) ∙ ap (λ (l : List ℕ). getD l i 0) e) os h
+pub bits-below : (assignment : List ℕ) → some (ltb 1) assignment ≡ false → some (ltb 2) assignment ≡ false
+bits-below [] e = refl
+bits-below (v ∷ vs) e =
+    let g = neither (ltb 1 v) (some (ltb 1) vs) e in
+    rw (le-ltb 2 v (omega (arith, ltb-false 1 v (g .0)))) (bits-below vs (g .1))
+
+-- a store with the storage order's values gives the outputs
+pub values-outputs : (values : List ℕ) (ns : List BoolNode) (count : ℕ) (os : List BoolWire) (assignment : List ℕ) → some (ltb 1) assignment ≡ false → ((k : ℕ) → k < count → getD values k 0 ≡ getD (storageValues ns assignment) k 0)
+    → someNotBelow count os ≡ false → outputsFrom values os ≡ evaluated ns os assignment
+unfolding storageOutputs outputsFrom
+values-outputs values ns count os assignment b e h = wires-below values (storageValues ns assignment) count e os h ∙ evaluate-same ns os assignment (assigned-bits assignment b)

@@ -8,7 +8,11 @@ pub mod Calls
 pub mod Passing
 pub mod Rules
 pub mod Evaluating
+pub mod Places
+pub mod Marks
+pub mod Placing
 pub mod Standing
+pub mod Valuing
 pub mod Running
 pub mod Numbering
 pub mod Examples

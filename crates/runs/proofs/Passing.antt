@@ -2,8 +2,9 @@
 -- Assumes nothing.
 use mathlib.Core.Path.{_≡_, refl, sym, ap, _∙_}
 use mathlib.Core.List.{List, [], _∷_}
-use mathlib.Core.Bool.{Bool, true, false, cond, not}
-use Prim.Native.Nat.{ℕ, _+_, _*_, _/_, _%_, _<_, _≤_, zero-le}
+use mathlib.Core.Bool.{Bool, true, false, not}
+use Prim.Native.Nat.{ℕ, zero, suc, _+_, _*_, _/_, _%_, _<_, _≤_}
+use native.Mathlib.Numerals.{add-one}
 use native.Mathlib.Omega.{arith}
 use lib.Dec.{eqb, ltb}
 use borrow.Author.Tests.{eqb-true, not-false}
@@ -17,13 +18,13 @@ use Rattle.circuit.specs.declared.refusals.Checked.the-variants.{Sound, Refused
 use Rattle.circuit.specs.declared.records.BoolWire.{BoolWire}
 use Rattle.circuit.specs.declared.records.BoolNode.{BoolNode}
 use Rattle.circuit.specs.Refusals.{refuseIf}
-use Rattle.circuit.specs.Records.{NodeIs, nodeAt, nodesOf, isCellNode, wiresOf}
-use Rattle.circuit.specs.Check.{recordBroken, notBelow, someNotBelow, checkWires, checkNode, checkNodes, checkCircuit, nodeBroken, whole, nodesIn, wiresIn, topologicalFault}
-use Rattle.circuit.proofs.Checks.{no-fault, not-refused, rest, scan-start, scan-end, scan-broken, scan-fault, scan-passed, node-passed, below-more, is-whole, topological-whole}
+use Rattle.circuit.specs.Records.{NodeIs, nodeAt, nodesOf, wiresOf}
+use Rattle.circuit.specs.Check.{recordBroken, notBelow, someNotBelow, checkWires, checkNodes, checkCircuit, nodeBroken, whole, nodesIn, wiresIn, topologicalFault}
+use Rattle.circuit.proofs.Checks.{no-fault, not-refused, rest, scan-start, scan-end, scan-passed, below-more, is-whole, topological-whole}
 use Rattle.runs.specs.Runs.{inputCount, wrongAssignment}
-use Rattle.runs.specs.Work.{Tells, Prepared, Passing, Workable}
+use Rattle.runs.specs.Work.{Tells, Prepared, Passing}
 use Rattle.runs.specs.Calls.{roomFault, evaluateFault}
-use Rattle.runs.proofs.Turns.{from, from-start, from-end, same-turn, node-at-is}
+use Rattle.runs.proofs.Turns.{node-at-is}
 use Rattle.runs.proofs.Calls.{right-length, has-room, Room, accepted-nodes, outputs-wired, evaluate-assigned, evaluates-of}
 
 -- ---- what a test's answer tells
@@ -35,10 +36,6 @@ told false p e = absurd (clash e refl)
 pub denied : {P : Type 0} (r : Bool) → Tells r P → r ≡ false → P → ⊥
 denied true p e = absurd (clash refl e)
 denied false p e = p
-
-pub told-both : {P : Type 0} (Q : Type 0) (r : Bool) → P → Tells r Q → Tells r (P × Q)
-told-both Q true p q = (p, q)
-told-both Q false p q = λ b. q (b .1)
 
 -- ---- a node on the way
 
@@ -67,62 +64,13 @@ module _ (nodes : List ℕ) (m k : ℕ) (h : k < m) where
   scan-on : nodeBroken k n ≡ false → rest nodes m k ≡ rest nodes m (k + 1)
   scan-on q = let g = node-sound k n q in scan-passed nodes m k h n e (g .0) (wires-earlier m k (omega arith) (wiresOf n) (g .1))
 
-  scan-stops : nodeBroken k n ≡ true → rest nodes m k ≡ Sound → ⊥
-  unfolding nodeBroken checkNode
-  scan-stops q s = go (recordBroken n) refl (checkWires m k (wiresOf n)) refl
-    where
-      go : (b : Bool) → recordBroken n ≡ b → (c : Checked) → checkWires m k (wiresOf n) ≡ c → ⊥
-      go true x c y = refused-apart (rest nodes m k) Broken (scan-broken nodes m k h n e x) s
-      go false x (Refused r) y = refused-apart (rest nodes m k) r (scan-fault nodes m k h n e x r y) s
-      go false x Sound y =
-          let p = node-passed m k n (rw (x, y)) in
-          clash q (rw (x, p .earlier))
-
-pub workable-at : (nodes : List ℕ) (k : ℕ) → nodeBroken k (nodeAt nodes k) ≡ false → isCellNode (nodeAt nodes k) ≡ true → Workable (nodeAt nodes k) k
-workable-at nodes k q c = let g = node-sound k (nodeAt nodes k) q in record { cell = c; unbroken = g .0; wired = g .1 }
-
--- ---- the pass over the nodes
-
-cond-next : (b : Bool) (p : ℕ) → cond b p (p + 1) ≤ p + 1
-cond-next true p = omega arith
-cond-next false p = omega arith
-
-module _ (nodes : List ℕ) (count : ℕ) where
-  -- node k is next: the nodes before it pass the check, and p of them are inputs
-  pub record Way (k p : ℕ) : Type 0 where
-    pub inside : k ≤ count
-    pub few : p ≤ k
-    pub counted : p + inputCount (from nodes count k) ≡ inputCount (nodesOf nodes count)
-    pub scanned : checkNodes count 0 (nodesOf nodes count) ≡ rest nodes count k
-
-  pub way-start : Way 0 0
-  way-start =
-      record { inside = zero-le; few = zero-le; counted = omega (arith, ap inputCount (from-start nodes count)); scanned = scan-start nodes count }
-
-  module _ (k p : ℕ) (w : Way k p) where
-    module _ (h : k < count) where
-      pub way-next : nodeBroken k (nodeAt nodes k) ≡ false → (r : ℕ) → r ≡ cond (isCellNode (nodeAt nodes k)) p (p + 1) → Way (k + 1) r
-      way-next q r g =
-          record {
-            inside = omega arith;
-            few = omega (arith, g, cond-next (isCellNode (nodeAt nodes k)) p, w .few);
-            counted = same-turn nodes count k h p r (inputCount (nodesOf nodes count)) (w .counted) g;
-            scanned = w .scanned ∙ scan-on nodes count k h q;
-          }
-
-      pub way-stops : nodeBroken k (nodeAt nodes k) ≡ true → (assignment : List ℕ) → Passing nodes count assignment → ⊥
-      way-stops q assignment p = scan-stops nodes count k h q (sym (w .scanned) ∙ p .accepted)
-
-    module _ (h : count ≤ k) where
-      all-passed : p ≡ inputCount (nodesOf nodes count)
-      unfolding inputCount
-      all-passed = let z : inputCount (from nodes count k) ≡ inputCount [] = ap inputCount (from-end nodes count k h) in omega (arith, w .counted, z)
-
-      pub way-ends : (assignment : List ℕ) → p ≡ length assignment → Passing nodes count assignment
-      way-ends assignment e = record { accepted = w .scanned ∙ scan-end nodes count k h; inputs = sym e ∙ all-passed }
-
-      pub way-differs : (assignment : List ℕ) → (p ≡ length assignment → ⊥) → Passing nodes count assignment → ⊥
-      way-differs assignment e q = e (all-passed ∙ sym (q .inputs))
+-- nodes of which none fails pass the check
+pub each-sound : (nodes : List ℕ) (m : ℕ) → ((k : ℕ) → k < m → nodeBroken k (nodeAt nodes k) ≡ false) → checkNodes m 0 (nodesOf nodes m) ≡ Sound
+each-sound nodes m h = scan-start nodes m ∙ along m (omega arith) ∙ scan-end nodes m m (omega arith)
+  where
+    along : (j : ℕ) → j ≤ m → rest nodes m 0 ≡ rest nodes m j
+    along zero g = refl
+    along (suc j) g = along j (omega (arith, g)) ∙ scan-on nodes m j (omega (arith, g)) (h j (omega (arith, g))) ∙ ap (rest nodes m) (add-one j)
 
 -- ---- the calls
 

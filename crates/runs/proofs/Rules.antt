@@ -19,7 +19,7 @@ module _ (k : ℕ) (n : BoolNode) where
   unfolding nodeBroken
   rule-broken e = rw e
 
-  none-broken : recordBroken n ≡ false → someNotBelow k (wiresOf n) ≡ false → false ≡ nodeBroken k n
+  pub none-broken : recordBroken n ≡ false → someNotBelow k (wiresOf n) ≡ false → false ≡ nodeBroken k n
   unfolding nodeBroken
   none-broken e q = rw (e, q)
 
@@ -67,18 +67,18 @@ module _ (k : ℕ) (n : BoolNode) where
       two-broken h = rule-broken (sym (table-test n kind 2 two (inr refl)) ∙ le-leb 16 (n .table) h)
 
       module _ (h : n .table < 16) (e : notBelow k (n .first) ≡ false) where
-        rules : recordBroken n ≡ false
-        rules = sym (table-test n kind 2 two (inr refl)) ∙ lt-leb 16 (n .table) h
+        pub two-rules : recordBroken n ≡ false
+        two-rules = sym (table-test n kind 2 two (inr refl)) ∙ lt-leb 16 (n .table) h
 
         both : wiresOf n ≡ n .first ∷ n .second ∷ []
-        both = wires-two n cell rules (λ z. omega (arith, two, z))
+        both = wires-two n cell two-rules (λ z. omega (arith, two, z))
 
         pub second-broken : notBelow k (n .second) ≡ true → true ≡ nodeBroken k n
         second-broken q =
             let m : someNotBelow k (n .first ∷ n .second ∷ []) ≡ true = rw (e, q) in
-            wire-broken rules (ap (someNotBelow k) both ∙ m)
+            wire-broken two-rules (ap (someNotBelow k) both ∙ m)
 
         pub two-unbroken : notBelow k (n .second) ≡ false → false ≡ nodeBroken k n
         two-unbroken q =
             let m : someNotBelow k (n .first ∷ n .second ∷ []) ≡ false = rw (e, q) in
-            none-broken rules (ap (someNotBelow k) both ∙ m)
+            none-broken two-rules (ap (someNotBelow k) both ∙ m)

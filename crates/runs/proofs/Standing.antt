@@ -14,7 +14,7 @@ use lib.ListN.{length, getD, set, take, drop, replicate, length-set, length-repl
 use lib.Seq.{drop-cons, getD-set-same, getD-set-other}
 use Rattle.laws.specs.Lists.{elem, some}
 use Rattle.laws.proofs.Lists.{elem-here, elem-later, elem-cons-split, elem-snoc-same, elem-snoc-other}
-use Rattle.laws.proofs.Tests.{neither, clash, true-of, false-of, and-true, cond-true, cond-false}
+use Rattle.laws.proofs.Tests.{neither, clash, true-of, false-of, and-true}
 use Rattle.laws.proofs.Filling.{cond-both, take-next}
 use Rattle.circuit.specs.declared.records.BoolWire.{BoolWire}
 use Rattle.circuit.specs.declared.records.BoolWire.the-variants.{Const, Node}
@@ -24,17 +24,18 @@ use Rattle.circuit.specs.Check.{someNotBelow, checkCircuit}
 use Rattle.circuit.specs.Graph.{Vertex, nodesRead, graphOf, readsOf, cellsOf, waits, ready, fit, fitList}
 use Rattle.circuit.proofs.Codes.{length-nodes, node-of}
 use Rattle.circuit.proofs.Graph.{cell-below, waits-cell, waits-fresh, waits-makes, waits-taken, ready-waits, ready-free, ready-makes, free-at, free-makes, left, left-fit, left-start, left-none}
-use Rattle.circuit.proofs.Checks.{Sounds, circuit-sound}
+use Rattle.circuit.proofs.Checks.{Passed, Sounds, circuit-sound}
 use Rattle.circuit.proofs.Circuits.{cell-at, reads-at, length-graph, read-below}
 use Rattle.cells.specs.Cells.{entry, fillings, agreed}
 use Rattle.cells.proofs.Rule.{entry-bit}
 use Rattle.runs.specs.Values.{signalValue, answerOf, valuesFrom, outputsFrom, storageValues, storageOutputs}
 use Rattle.runs.specs.Runs.{putIn, step}
 use Rattle.runs.specs.Fit.{Accepted}
-use Rattle.runs.specs.Steps.{marked, answerOrWait, Steppable, Turn, Stepped, Standing}
+use Rattle.runs.specs.Steps.{marked, Steppable, Turn, Stepped, Standing}
 use Rattle.runs.proofs.Storage.{wires-below, put-stay}
 use Rattle.runs.proofs.Along.{Right, step-right, start-right}
 use Rattle.runs.proofs.Turns.{accepted-at}
+use Rattle.runs.proofs.Rules.{none-broken}
 use Rattle.runs.proofs.Evaluating.{assigned-below}
 
 -- ---- the storage order's values are 0, 1 or 2
@@ -44,7 +45,7 @@ agreed-small t [] = omega arith
 agreed-small t (i ∷ []) = omega (arith, entry-bit t i)
 agreed-small t (i ∷ j ∷ is) = cond-both (λ (v : ℕ). v < 3) (eqb (entry t i) (agreed (map (entry t) (j ∷ is)))) (entry t i) 2 (omega (arith, entry-bit t i)) (omega arith)
 
-answer-small : (s : List ℕ) (n : BoolNode) → answerOf s n < 3
+pub answer-small : (s : List ℕ) (n : BoolNode) → answerOf s n < 3
 unfolding answerOf
 answer-small s n = agreed-small (n .table) (fillings 0 (map (signalValue s) (wiresOf n)))
 
@@ -60,21 +61,6 @@ values-small a e [] p vs h = h
 values-small a e (n ∷ ns) p vs h =
     cond-both (λ (l : List ℕ). (k : ℕ) → getD l k 0 < 3) (isCellNode n) _ _ (values-small a e ns p (vs ++ answerOf vs n ∷ []) (small-snoc vs (answerOf vs n) h (answer-small vs n)))
     (values-small a e ns (suc p) (vs ++ getD a p 0 ∷ []) (small-snoc vs (getD a p 0) h (e p)))
-
--- ---- a cell's answer, or that it waits
-
-module _ (s : List ℕ) (n : BoolNode) (v : ℕ) (e : v ≡ answerOrWait s n) where
-  pub waits-of : 2 < v → some (marked s) (wiresOf n) ≡ false → ⊥
-  unfolding answerOrWait
-  waits-of h q = let z : v ≡ answerOf s n = e ∙ cond-false (some (marked s) (wiresOf n)) 3 (answerOf s n) q in omega (arith, z, answer-small s n, h)
-
-  pub supplied-of : v < 3 → some (marked s) (wiresOf n) ≡ false
-  unfolding answerOrWait
-  supplied-of h = false-of (some (marked s) (wiresOf n)) (λ q. omega (arith, e ∙ cond-true (some (marked s) (wiresOf n)) 3 (answerOf s n) q, h))
-
-  pub answer-given : v < 3 → v ≡ answerOf s n
-  unfolding answerOrWait
-  answer-given h = e ∙ cond-false (some (marked s) (wiresOf n)) 3 (answerOf s n) (supplied-of h)
 
 -- ---- the inputs change no cell's value
 
@@ -121,25 +107,16 @@ module _ (nodes : List ℕ) (count : ℕ) (ok : Accepted nodes count) (assignmen
           (put-cell assignment (nodesOf nodes count) 0 0 old k h (sym (cell-at (nodesOf nodes count) k) ∙ waits-cell (graphOf (nodesOf nodes count)) [] k w))
 
   -- every value a mark, then the inputs
-  pub standing-marked : (n : ℕ) (old after : List ℕ) → old ≡ replicate n 3 → count ≤ n → some (ltb 2) assignment ≡ false → after ≡ putIn assignment 0 0 old (nodesOf nodes count)
+  pub standing-marked : (n : ℕ) (old after : List ℕ) → old ≡ replicate n 144 → count ≤ n → some (ltb 2) assignment ≡ false → after ≡ putIn assignment 0 0 old (nodesOf nodes count)
       → Standing (nodesOf nodes count) assignment [] after
   standing-marked n old after q l e r =
-      let z : length old ≡ n = ap length q ∙ length-replicate n 3 in
+      let z : length old ≡ n = ap length q ∙ length-replicate n 144 in
       subst (Standing (nodesOf nodes count) assignment []) (sym r)
-      (standing-start old (omega (arith, z, l)) (λ k h. subst (λ (v : ℕ). 2 < v) (sym (ap (λ (m : List ℕ). getD m k 0) q ∙ getD-replicate n k 3 0 (omega (arith, h, l)))) (omega arith)) e)
+      (standing-start old (omega (arith, z, l)) (λ k h. subst (λ (v : ℕ). 2 < v) (sym (ap (λ (m : List ℕ). getD m k 0) q ∙ getD-replicate n k 144 0 (omega (arith, h, l)))) (omega arith)) e)
 
   module _ (taken s : List ℕ) (st : Standing (nodesOf nodes count) assignment taken s) where
     unmarked : (k : ℕ) → k < count → waits graph taken k ≡ false → getD s k 0 < 3
     unmarked k h w = subst (λ (v : ℕ). v < 3) (sym (st .right k (omega (arith, size)) w)) (st .small k)
-
-    -- a marked node is a cell
-    marked-cell : (k : ℕ) → k < count → 2 < getD s k 0 → isCellNode (nodeAt nodes k) ≡ true
-    marked-cell k h m =
-        let w : waits graph taken k ≡ true = true-of (waits graph taken k) (λ w. omega (arith, unmarked k h w, m)) in
-        ap isCellNode (sym (node-of nodes count k h)) ∙ sym (cell-at (nodesOf nodes count) k) ∙ waits-cell graph taken k w
-
-    pub steppable-of : Steppable nodes count s
-    steppable-of = record { accepted = ok; stored = omega (arith, size, st .room); cells = marked-cell }
 
     module _ (x : ℕ) where
       reads-of : x < count → readsOf graph x ≡ nodesRead (wiresOf (nodeAt nodes x))
@@ -177,16 +154,28 @@ module _ (nodes : List ℕ) (count : ℕ) (ok : Accepted nodes count) (assignmen
           free : (y : ℕ) → elem y (nodesRead (wiresOf (nodeAt nodes x))) ≡ true → waits graph taken y ≡ false
           free y m =
               false-of (waits graph taken y)
-              (λ w. omega (arith, st .waiting y (omega (arith, inside (t .inside) y m, size)) w, read-small (wiresOf (nodeAt nodes x)) (t .supplied) y m))
+              (λ w. omega (arith, st .waiting y (omega (arith, inside (t .inside) y m, size)) w, read-small (wiresOf (nodeAt nodes x)) (t .ready .supplied) y m))
 
       pub ready-turn : ready graph taken x ≡ true → Turn nodes count s x
-      ready-turn r = record { inside = h; waiting = st .waiting x (omega (arith, h, size)) w; supplied = none-marked (wiresOf (nodeAt nodes x)) value }
+      ready-turn r =
+          record {
+            inside = h;
+            waiting = st .waiting x (omega (arith, h, size)) w;
+            ready = record {
+              cell = ap isCellNode (sym (node-of nodes count x h)) ∙ sym (cell-at (nodesOf nodes count) x) ∙ waits-cell graph taken x w;
+              sound = sym (none-broken x (nodeAt nodes x) (p .rules) (p .earlier));
+              supplied = none-marked (wiresOf (nodeAt nodes x)) value;
+            };
+          }
         where
           w : waits graph taken x ≡ true
           w = ready-waits graph taken x r
 
           h : x < count
           h = omega (arith, cell-below graph x (waits-cell graph taken x w), length-graph (nodesOf nodes count), size)
+
+          p : Passed count x (nodeAt nodes x)
+          p = accepted-at nodes count ok x h
 
           value : (y : ℕ) → elem y (nodesRead (wiresOf (nodeAt nodes x))) ≡ true → getD s y 0 < 3
           value y m = unmarked y (inside h y m) (free-at graph taken (readsOf graph x) y (ready-free graph taken x r) (ap (elem y) (reads-of h) ∙ m))
@@ -231,22 +220,22 @@ list-end c order i h = ap (fit c (take i order)) (drop-of-length-le order h)
 pub list-whole : (order : List ℕ) (i : ℕ) → length order ≤ i → take i order ≡ order
 list-whole order i h = sym (append-nil (take i order)) ∙ ap (λ (l : List ℕ). take i order ++ l) (sym (drop-of-length-le order h)) ∙ take-append-drop i order
 
--- a step keeps the marks on cells
+-- a step keeps the marks great
 pub steppable-next : (nodes : List ℕ) (count : ℕ) (s : List ℕ) (x : ℕ) (after : List ℕ) → Steppable nodes count s → Turn nodes count s x → Stepped nodes x s after → Steppable nodes count after
 steppable-next nodes count s x after p t e =
-    record { accepted = p .accepted; stored = omega (arith, p .stored, ap length (e .stored), length-set s x (answerOf s (nodeAt nodes x))); cells = at }
+    record { room = p .room; stored = omega (arith, p .stored, ap length (e .stored), length-set s x (answerOf s (nodeAt nodes x))); graded = at }
   where
-    at : (k : ℕ) → k < count → 2 < getD after k 0 → isCellNode (nodeAt nodes k) ≡ true
-    at k h m = go (eqb k x) refl
+    at : (k : ℕ) → 2 < getD after k 0 → 143 < getD after k 0
+    at k m = go (eqb k x) refl
       where
-        go : (b : Bool) → eqb k x ≡ b → isCellNode (nodeAt nodes k) ≡ true
+        go : (b : Bool) → eqb k x ≡ b → 143 < getD after k 0
         go true q =
             let v : getD after k 0 ≡ answerOf s (nodeAt nodes x) = ap (λ (l : List ℕ). getD l k 0) (e .stored) ∙ ap (λ (i : ℕ). getD (set s x (answerOf s (nodeAt nodes x))) i 0) (eqb-true k x q)
             ∙ getD-set-same s x (answerOf s (nodeAt nodes x)) 0 (omega (arith, t .inside, p .stored)) in
             absurd (omega (arith, v, e .answered, m))
         go false q =
             let v : getD after k 0 ≡ getD s k 0 = ap (λ (l : List ℕ). getD l k 0) (e .stored) ∙ getD-set-other s x k (answerOf s (nodeAt nodes x)) 0 (eqb-false k x q) in
-            p .cells k h (subst (λ (i : ℕ). 2 < i) v m)
+            subst (λ (i : ℕ). 143 < i) (sym v) (p .graded k (subst (λ (i : ℕ). 2 < i) v m))
 
 -- what the whole list leaves gives the outputs
 pub standing-outputs : (ns : List BoolNode) (os : List BoolWire) (assignment order s : List ℕ) → Standing ns assignment order s → fitList (graphOf ns) order ≡ true → someNotBelow (length ns) os ≡ false

@@ -102,7 +102,7 @@ wires-known : (s : List ℕ) → Known s → (ws : List BoolWire) → Each (λ v
 wires-known s h [] = tt
 wires-known s h (w ∷ ws) = (wire-known s h w, wires-known s h ws)
 
-answer-entry : (s : List ℕ) → Known s → (n : BoolNode) → answerOf s n ≡ entryOf s n
+pub answer-entry : (s : List ℕ) → Known s → (n : BoolNode) → answerOf s n ≡ entryOf s n
 unfolding answerOf entryOf
 answer-entry s h n = rule-known (n .table) (map (signalValue s) (wiresOf n)) (wires-known s h (wiresOf n))
 
@@ -110,14 +110,14 @@ entry-known : (s : List ℕ) (n : BoolNode) → entryOf s n < 2
 unfolding entryOf
 entry-known s n = entry-bit (n .table) (indexFrom 0 (map (signalValue s) (wiresOf n)))
 
-values-known : (a : List ℕ) → Known a → (ns : List BoolNode) (p : ℕ) (s : List ℕ) → Known s → Known (valuesFrom entryOf a p s ns)
+pub values-known : (a : List ℕ) → Known a → (ns : List BoolNode) (p : ℕ) (s : List ℕ) → Known s → Known (valuesFrom entryOf a p s ns)
 unfolding valuesFrom
 values-known a e [] p s h = h
 values-known a e (n ∷ ns) p s h =
     cond-both Known (isCellNode n) _ _ (values-known a e ns p (s ++ entryOf s n ∷ []) (known-snoc s (entryOf s n) h (entry-known s n)))
     (values-known a e ns (suc p) (s ++ getD a p 0 ∷ []) (known-snoc s (getD a p 0) h (e p)))
 
-values-same : (a : List ℕ) → Known a → (ns : List BoolNode) (p : ℕ) (s : List ℕ) → Known s → valuesFrom answerOf a p s ns ≡ valuesFrom entryOf a p s ns
+pub values-same : (a : List ℕ) → Known a → (ns : List BoolNode) (p : ℕ) (s : List ℕ) → Known s → valuesFrom answerOf a p s ns ≡ valuesFrom entryOf a p s ns
 unfolding valuesFrom
 values-same a e [] p s h = refl
 values-same a e (n ∷ ns) p s h =

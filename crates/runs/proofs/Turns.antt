@@ -17,16 +17,15 @@ use Rattle.laws.proofs.Storing.{up-at}
 use Rattle.laws.proofs.Filling.{take-next}
 use Rattle.circuit.specs.declared.records.BoolWire.the-variants.{Node}
 use Rattle.circuit.specs.declared.records.BoolNode.{BoolNode}
-use Rattle.circuit.specs.Records.{wireOf, nodeAt, NodeIs, nodesOf, outputWire, outputWires, isCellNode, noNode, noWire, wiresOf}
+use Rattle.circuit.specs.Records.{wireOf, nodeAt, NodeIs, nodesOf, outputWire, outputWires, isCellNode, noNode, noWire}
 use Rattle.circuit.specs.Check.{notBelow}
 use Rattle.circuit.specs.Graph.{Vertex, graphOf, isCell, cellsOf}
 use Rattle.circuit.proofs.Codes.{wireOf-node, node-of, length-nodes, length-output-wires}
-use Rattle.circuit.proofs.Checks.{Passed, nodes-passed, all-below-more}
+use Rattle.circuit.proofs.Checks.{Passed, nodes-passed}
 use Rattle.circuit.proofs.Circuits.{cell-at, length-graph}
 use Rattle.runs.specs.Values.{signalValue, outputsFrom}
 use Rattle.runs.specs.Runs.{putIn, inputCount}
 use Rattle.runs.specs.Fit.{readyIn, fitIn, Accepted}
-use Rattle.runs.specs.Work.{WorkableAt}
 
 -- ---- accepted nodes
 
@@ -35,15 +34,6 @@ module _ (nodes : List ℕ) (count : ℕ) (ok : Accepted nodes count) where
   accepted-at x h =
       let p = nodes-passed count 0 (nodesOf nodes count) x (ok .accepted) (omega (arith, length-nodes nodes count)) in
       subst (λ (k : ℕ). Passed count k (nodeAt nodes x)) (zero-add x) (subst (λ (n : BoolNode). Passed count (0 + x) n) (node-of nodes count x h) p)
-
-  pub accepted-workable : (size x : ℕ) → count ≤ size → x < count → isCellNode (nodeAt nodes x) ≡ true → WorkableAt nodes size x
-  accepted-workable size x l h c =
-      let p = accepted-at x h in
-      record {
-        inside = omega (arith, ok .room);
-        stored = omega arith;
-        workable = record { cell = c; unbroken = p .rules; wired = all-below-more count size l (wiresOf (nodeAt nodes x)) (p .inside) };
-      }
 
 -- ---- one pass over a list
 

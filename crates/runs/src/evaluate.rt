@@ -1,25 +1,27 @@
 // `evaluate`: the outputs of the storage order, two-valued.
 ghost use mathlib.Core.Path.{_≡_};
 ghost use mathlib.Core.Bool.{true, false};
-ghost use mathlib.Core.List.{[], _++_};
-ghost use Prim.Native.Nat.{ℕ, _+_, _-_, _*_, _/_, _<_, _≤_};
+ghost use mathlib.Core.List.{List, [], _++_};
+ghost use Prim.Native.Nat.{ℕ, _-_, _*_, _/_, _<_, _≤_};
 ghost use lib.Dec.{ltb};
-ghost use lib.ListN.{length, getD, take, replicate};
+ghost use lib.ListN.{length, getD, replicate};
 ghost use Rattle.laws.specs.Lists.{some};
 ghost use Rattle.circuit.specs.declared.refusals.Checked.the-variants.{Sound, Refused};
 ghost use Rattle.circuit.specs.Records.{nodeAt, nodesOf};
 ghost use Rattle.circuit.specs.Check.{nodesIn, wiresIn};
-ghost use Rattle.runs.specs.Values.{entryOf, valuesFrom, evaluated};
-ghost use Rattle.runs.specs.Work.{Tells, Passing, Workable, Valuable, Valuing};
+ghost use Rattle.runs.specs.Values.{storageValues, evaluated};
+ghost use Rattle.runs.specs.Fit.{Accepted};
+ghost use Rattle.runs.specs.Work.{Tells, Passing, Next, EntryIs, Settled, Valued};
+ghost use Rattle.runs.specs.Steps.{Standing};
 ghost use Rattle.runs.specs.Calls.{evaluateFault, evaluateCall, evaluatedResult};
-use crate::inputs::assigned_at;
+use crate::inputs::mark_all;
+use crate::inputs::put_inputs;
 use crate::inputs::wrong_assignment;
 use crate::outputs::give;
 use crate::outputs::prepared;
 use crate::outputs::refuse;
 use crate::outputs::room_fault;
-use crate::values::broken_at;
-use crate::values::signal_value;
+use crate::values::wire_value;
 use cells::table_entry;
 use circuit::check::validate_topological;
 use circuit::refusals::Checked;
@@ -31,48 +33,75 @@ pub enum Evaluated {
     Refused(Refusal),
 }
 
-// Of cell k, the entry of the table at the index that the values of the wires give.
-pub fn entry_of(nodes: &[usize], k: usize, values: &[u8]) -> u8
-    requires { ⌜ (k * 9 + 9 ≤ length (now nodes)) × Workable (nodeAt (now nodes) k) k × (k ≤ length (now values)) × ((i : ℕ) → i < k → getD (now values) i 0 < 2) ⌝ }
-    ensures { λ r. ⌜ (r ≡ entryOf (now (values .entry)) (nodeAt (now (nodes .entry)) k)) × (r < 2) ⌝ }
+// Of cell k, the entry of the table at the index that the values of the wires give; 2 where the record breaks a rule or reads a node that is not earlier.
+pub fn cell_entry(nodes: &[usize], k: usize, values: &[u8]) -> u8
+    requires { ⌜ Next (now nodes) k (now values) × (nodeAt (now nodes) k .kind ≡ 2) ⌝ }
+    ensures { λ r. ⌜ EntryIs k (nodeAt (now (nodes .entry)) k) (now (values .entry)) r ⌝ }
 {
     let at = k * 9;
     let table = nodes[at + 2];
-    let a = signal_value(nodes[at + 7], values) as usize;
-    if nodes[at + 1] == 1 {
-        return table_entry(table, a) as u8;
+    if k + 2 <= nodes[at + 7] {
+        return 2;
     }
-    let b = signal_value(nodes[at + 8], values) as usize;
-    table_entry(table, 2 * a + b) as u8
+    let a = wire_value(nodes[at + 7], values);
+    if nodes[at + 1] == 2 {
+        if 16 <= table {
+            return 2;
+        }
+        if k + 2 <= nodes[at + 8] {
+            return 2;
+        }
+        let b = wire_value(nodes[at + 8], values);
+        return table_entry(table, 2 * a + b) as u8;
+    }
+    if nodes[at + 1] == 1 {
+        if table < 4 {
+            return table_entry(table, a) as u8;
+        }
+    }
+    2
 }
 
-// The value of node k goes into the store. The answer is the number of inputs passed.
-pub fn put_value(nodes: &[usize], k: usize, assignment: &[u8], p: usize, values: &mut [u8]) -> usize
-    requires { ⌜ Valuable (now nodes) k (now assignment) p (now values) ⌝ }
-    ensures { λ r. ⌜ Valuing (now (nodes .entry)) k (now (assignment .entry)) p (now (values .entry)) r (now (values .exit)) ⌝ }
+// The value of node k goes into the store, if it is a cell. False where it breaks a rule, or is no cell and has no value.
+pub fn put_cell(nodes: &[usize], k: usize, values: &mut [u8]) -> bool
+    requires { ⌜ Next (now nodes) k (now values) ⌝ }
+    ensures { λ r. ⌜ Tells r (Settled (now (nodes .entry)) k (now (values .entry))) × (r ≡ true → Valued (now (nodes .entry)) k (now (values .entry)) (now (values .exit))) ⌝ }
 {
     if nodes[k * 9] == 2 {
-        values[k] = entry_of(nodes, k, values);
-        return p;
-    }
-    values[k] = assigned_at(assignment, p);
-    p + 1
-}
-
-// One pass in storage order: each node is checked (15, 16), then its value worked out. False where a node fails or the inputs are not as many as the values.
-pub fn put_values(nodes: &[usize], count: usize, assignment: &[u8], values: &mut [u8]) -> bool
-    requires { ⌜ (count * 9 ≤ length (now nodes)) × (count ≤ length (now values)) × (some (ltb 1) (now assignment) ≡ false) ⌝ }
-    ensures { λ r. ⌜ Tells r (Passing (now (nodes .entry)) count (now (assignment .entry))) × (r ≡ true → take count (now (values .exit)) ≡ valuesFrom entryOf (now (assignment .entry)) 0 [] (nodesOf (now (nodes .entry)) count)) ⌝ }
-{
-    let mut p = 0;
-    for k in 0..count {
-        if broken_at(nodes, k) {
+        let v = cell_entry(nodes, k, values);
+        if 1 < v {
             return false;
         }
-        p = put_value(nodes, k, assignment, p, values);
-    }
-    if p == assignment.len() {
+        values[k] = v;
         return true;
+    }
+    if values[k] < 2 {
+        return true;
+    }
+    false
+}
+
+// The cells in storage order, each checked (15, 16), then worked out.
+pub fn put_cells(nodes: &[usize], count: usize, values: &mut [u8]) -> bool
+    requires { ⌜ (count * 9 ≤ length (now nodes)) × (count ≤ length (now values)) ⌝ }
+    ensures { λ r. ⌜ (r ≡ true → (k : ℕ) → k < count → Settled (now (nodes .entry)) k (now (values .entry))) × ((assignment : List ℕ) → Accepted (now (nodes .entry)) count → ((i : ℕ) → getD assignment i 0 < 2) → Standing (nodesOf (now (nodes .entry)) count) assignment [] (now (values .entry)) → (r ≡ true) × ((k : ℕ) → k < count → getD (now (values .exit)) k 0 ≡ getD (storageValues (nodesOf (now (nodes .entry)) count) assignment) k 0)) ⌝ }
+{
+    for k in 0..count {
+        if put_cell(nodes, k, values) {} else {
+            return false;
+        }
+    }
+    true
+}
+
+// The inputs, then the cells. False where a node fails or the inputs are not as many as the values.
+pub fn put_values(nodes: &[usize], count: usize, assignment: &[u8], values: &mut [u8]) -> bool
+    requires { ⌜ (count * 9 ≤ length (now nodes)) × (count ≤ length (now values)) × (some (ltb 1) (now assignment) ≡ false) ⌝ }
+    ensures { λ r. ⌜ Tells r (Passing (now (nodes .entry)) count (now (assignment .entry))) × (r ≡ true → (k : ℕ) → k < count → getD (now (values .exit)) k 0 ≡ getD (storageValues (nodesOf (now (nodes .entry)) count) (now (assignment .entry))) k 0) ⌝ }
+{
+    mark_all(values);
+    if put_inputs(nodes, count, assignment, values) {
+        return put_cells(nodes, count, values);
     }
     false
 }

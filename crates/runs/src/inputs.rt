@@ -3,12 +3,11 @@ ghost use mathlib.Core.Path.{_≡_};
 ghost use mathlib.Core.Bool.{true, cond};
 ghost use Prim.Native.Nat.{_+_, _*_, _<_, _≤_};
 ghost use lib.Dec.{ltb};
-ghost use lib.ListN.{length, getD};
+ghost use lib.ListN.{length, replicate};
 ghost use Rattle.laws.specs.Lists.{some};
 ghost use Rattle.circuit.specs.Records.{nodeAt, nodesOf, isCellNode};
 ghost use Rattle.runs.specs.Runs.{putIn, inputCount, wrongAssignment};
-ghost use Rattle.runs.specs.Work.{Tells, Passing, Putting};
-use crate::values::broken_at;
+ghost use Rattle.runs.specs.Work.{Passing, isInputAt, Putting, Puttable, InputsIn};
 
 // 1 if node k is an input.
 pub fn input_at(nodes: &[usize], k: usize) -> usize
@@ -57,42 +56,40 @@ pub fn wrong_assignment(nodes: &[usize], count: usize, assignment: &[u8], top: u
     true
 }
 
-// Value p of an assignment, 0 past the last.
-pub fn assigned_at(assignment: &[u8], p: usize) -> u8
-    ensures { λ r. ⌜ r ≡ getD (now (assignment .entry)) p 0 ⌝ }
+// Every value marks a cell that waits: a number past the table of answers.
+pub fn mark_all(values: &mut [u8])
+    ensures { λ _. ⌜ now (values .exit) ≡ replicate (length (now (values .entry))) 144 ⌝ }
 {
-    if p < assignment.len() {
-        return assignment[p];
+    for i in 0..values.len() {
+        values[i] = 144;
     }
-    0
 }
 
-// An input's value goes into the store. The answer is the number of inputs passed.
+// The value of node k goes into the store, if it is an input. The answer is the number of inputs passed.
 pub fn put_input(nodes: &[usize], k: usize, assignment: &[u8], p: usize, values: &mut [u8]) -> usize
-    requires { ⌜ (k * 9 + 9 ≤ length (now nodes)) × (k < length (now values)) × (p ≤ k) ⌝ }
-    ensures { λ r. ⌜ Putting (isCellNode (nodeAt (now (nodes .entry)) k)) k (now (assignment .entry)) p (now (values .entry)) r (now (values .exit)) ⌝ }
+    requires { ⌜ (k * 9 + 9 ≤ length (now nodes)) × (k < length (now values)) × (p < length (now assignment)) ⌝ }
+    ensures { λ r. ⌜ Putting (isInputAt (now (nodes .entry)) k) k (now (assignment .entry)) p (now (values .entry)) r (now (values .exit)) ⌝ }
 {
-    if nodes[k * 9] == 2 {
-        return p;
+    if nodes[k * 9] == 1 {
+        values[k] = assignment[p];
+        return p + 1;
     }
-    values[k] = assigned_at(assignment, p);
-    p + 1
+    p
 }
 
-// One pass in storage order: each node is checked (15, 16), and each input's value goes into the store. False where a node fails or the inputs are not as many as the values.
+// The values of the assignment go to the inputs in turn, as far as there are values. False where there are too few inputs.
 pub fn put_inputs(nodes: &[usize], count: usize, assignment: &[u8], values: &mut [u8]) -> bool
-    requires { ⌜ (count * 9 ≤ length (now nodes)) × (count ≤ length (now values)) ⌝ }
-    ensures { λ r. ⌜ Tells r (Passing (now (nodes .entry)) count (now (assignment .entry))) × (r ≡ true → now (values .exit) ≡ putIn (now (assignment .entry)) 0 0 (now (values .entry)) (nodesOf (now (nodes .entry)) count)) ⌝ }
+    requires { ⌜ Puttable (now nodes) count (now assignment) (now values) ⌝ }
+    ensures { λ r. ⌜ (r ≡ true → InputsIn (now (nodes .entry)) count (now (assignment .entry)) (now (values .exit))) × (Passing (now (nodes .entry)) count (now (assignment .entry)) → (r ≡ true) × (now (values .exit) ≡ putIn (now (assignment .entry)) 0 0 (now (values .entry)) (nodesOf (now (nodes .entry)) count))) ⌝ }
 {
     let mut p = 0;
-    for k in 0..count {
-        if broken_at(nodes, k) {
+    let mut k = 0;
+    while p < assignment.len() {
+        if count <= k {
             return false;
         }
         p = put_input(nodes, k, assignment, p, values);
+        k += 1;
     }
-    if p == assignment.len() {
-        return true;
-    }
-    false
+    true
 }

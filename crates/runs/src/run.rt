@@ -15,6 +15,7 @@ ghost use Rattle.runs.specs.Work.{Tells, Passing};
 ghost use Rattle.runs.specs.Steps.{Standing};
 ghost use Rattle.runs.specs.Calls.{runFault, runCall, ranResult};
 use crate::fitness::fit_list;
+use crate::inputs::mark_all;
 use crate::inputs::put_inputs;
 use crate::inputs::wrong_assignment;
 use crate::outputs::give;
@@ -81,15 +82,6 @@ pub fn run_refusal(
     }
 }
 
-// Every value marks a cell that waits.
-pub fn mark_all(values: &mut [u8])
-    ensures { λ _. ⌜ now (values .exit) ≡ replicate (length (now (values .entry))) 3 ⌝ }
-{
-    for i in 0..values.len() {
-        values[i] = 3;
-    }
-}
-
 // A list of so many entries beside so many inputs has as many entries as there are cells.
 pub fn lists_cells(count: usize, inputs: usize, entries: usize) -> bool
     ensures { λ r. ⌜ Tells r (entries + inputs ≡ count) ⌝ }
@@ -102,7 +94,8 @@ pub fn lists_cells(count: usize, inputs: usize, entries: usize) -> bool
     false
 }
 
-// The inputs, then a step for each entry. False where a node fails, the inputs are not as many as the values, or the list is not fit.
+// The inputs, then a step for each entry, which checks its record: with as many entries and values as nodes, each node is an input or a cell that was checked.
+// False where a node fails, the inputs are not as many as the values, or the list is not fit.
 pub fn run_store(
     nodes: &[usize],
     count: usize,
@@ -110,7 +103,7 @@ pub fn run_store(
     assignment: &[u8],
     values: &mut [u8],
 ) -> bool
-    requires { ⌜ (count * 9 ≤ length (now nodes)) × (count ≤ length (now values)) × (some (ltb 2) (now assignment) ≡ false) ⌝ }
+    requires { ⌜ (count * 9 ≤ length (now nodes)) × (count ≤ length (now values)) × (some (ltb 2) (now assignment) ≡ false) × (length (now order) + length (now assignment) ≡ count) ⌝ }
     ensures { λ r. ⌜ Tells r (Passing (now (nodes .entry)) count (now (assignment .entry)) × (fit (graphOf (nodesOf (now (nodes .entry)) count)) [] (now (order .entry)) ≡ true)) × (r ≡ true → Standing (nodesOf (now (nodes .entry)) count) (now (assignment .entry)) (now (order .entry)) (now (values .exit))) ⌝ }
 {
     mark_all(values);

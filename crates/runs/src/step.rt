@@ -2,37 +2,47 @@
 ghost use mathlib.Core.Path.{_≡_};
 ghost use mathlib.Core.Bool.{true};
 ghost use mathlib.Core.List.{List, []};
-ghost use Prim.Native.Nat.{ℕ};
+ghost use Prim.Native.Nat.{ℕ, _+_, _*_, _<_, _≤_};
 ghost use lib.ListN.{length};
 ghost use Rattle.circuit.specs.Records.{nodeAt, nodesOf};
 ghost use Rattle.circuit.specs.Graph.{graphOf, fit};
 ghost use Rattle.cells.specs.Cells.{AnswerTable};
-ghost use Rattle.runs.specs.Work.{Tells, WorkableAt};
-ghost use Rattle.runs.specs.Steps.{answerOrWait, Steppable, Turn, Stepped, Standing};
-use crate::values::signal_value;
+ghost use Rattle.runs.specs.Fit.{Accepted};
+ghost use Rattle.runs.specs.Work.{Tells, Graded};
+ghost use Rattle.runs.specs.Steps.{PlaceOf, Steppable, Turn, Stepped, Unmarked, Standing};
+use crate::values::wire_value;
 use cells::answer_table;
-use cells::one_wire_answer;
-use cells::two_wire_answer;
 
-// What cell x gives on the values of its wires; 3 where it reads a cell that waits.
-pub fn answer_of(answers: &[u8; 144], nodes: &[usize], x: usize, values: &[u8]) -> u8
-    requires { ⌜ AnswerTable (now answers) × WorkableAt (now nodes) (length (now values)) x ⌝ }
-    ensures { λ r. ⌜ r ≡ answerOrWait (now (values .entry)) (nodeAt (now (nodes .entry)) x) ⌝ }
+// The place of cell x's answer in the table of answers: 9 * table + 3 * first + second, of one wire as of two whose first is 0.
+// 144 or more where the record breaks a rule or is no cell's, or where it reads a cell that waits.
+pub fn answer_place(nodes: &[usize], x: usize, values: &[u8]) -> usize
+    requires { ⌜ (x * 9 + 9 ≤ length (now nodes)) × (x < length (now values)) × Graded (now values) ⌝ }
+    ensures { λ r. ⌜ PlaceOf x (nodeAt (now (nodes .entry)) x) (now (values .entry)) r ⌝ }
 {
     let at = x * 9;
-    let table = nodes[at + 2];
-    let a = signal_value(nodes[at + 7], values) as usize;
-    if 2 < a {
-        return 3;
+    if nodes[at] == 2 {
+        let table = nodes[at + 2];
+        if x + 2 <= nodes[at + 7] {
+            return 144;
+        }
+        let a = wire_value(nodes[at + 7], values);
+        if nodes[at + 1] == 2 {
+            if 16 <= table {
+                return 144;
+            }
+            if x + 2 <= nodes[at + 8] {
+                return 144;
+            }
+            let b = wire_value(nodes[at + 8], values);
+            return 9 * table + 3 * a + b;
+        }
+        if nodes[at + 1] == 1 {
+            if table < 4 {
+                return 9 * table + a;
+            }
+        }
     }
-    if nodes[at + 1] == 1 {
-        return one_wire_answer(answers, table, a);
-    }
-    let b = signal_value(nodes[at + 8], values) as usize;
-    if 2 < b {
-        return 3;
-    }
-    two_wire_answer(answers, table, a, b)
+    144
 }
 
 // One entry: that cell's answer is stored, and no other value changes. False where it may not be worked out now.
@@ -46,18 +56,18 @@ pub fn step(answers: &[u8; 144], nodes: &[usize], count: usize, x: usize, values
     if values[x] < 3 {
         return false;
     }
-    let v = answer_of(answers, nodes, x, values);
-    if 2 < v {
+    let place = answer_place(nodes, x, values);
+    if 144 <= place {
         return false;
     }
-    values[x] = v;
+    values[x] = answers[place];
     true
 }
 
 // A step for each entry, while the list is fit. The table of answers is made once.
 pub fn run_steps(nodes: &[usize], count: usize, order: &[usize], values: &mut [u8]) -> bool
     requires { ⌜ Steppable (now nodes) count (now values) ⌝ }
-    ensures { λ r. ⌜ ((assignment : List ℕ) → Standing (nodesOf (now (nodes .entry)) count) assignment [] (now (values .entry)) → Tells r (fit (graphOf (nodesOf (now (nodes .entry)) count)) [] (now (order .entry)) ≡ true) × (r ≡ true → Standing (nodesOf (now (nodes .entry)) count) assignment (now (order .entry)) (now (values .exit)))) ⌝ }
+    ensures { λ r. ⌜ (r ≡ true → Unmarked (now (nodes .entry)) count (length (now (order .entry))) (now (values .entry)) (now (values .exit))) × ((assignment : List ℕ) → Accepted (now (nodes .entry)) count → Standing (nodesOf (now (nodes .entry)) count) assignment [] (now (values .entry)) → Tells r (fit (graphOf (nodesOf (now (nodes .entry)) count)) [] (now (order .entry)) ≡ true) × (r ≡ true → Standing (nodesOf (now (nodes .entry)) count) assignment (now (order .entry)) (now (values .exit)))) ⌝ }
 {
     let answers = answer_table();
     for i in 0..order.len() {

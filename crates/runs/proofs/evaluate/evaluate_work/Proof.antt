@@ -6,9 +6,8 @@ use mathlib.Core.List.{List, _++_}
 use Prim.Native.Nat.{ℕ, _-_, _/_}
 use native.Mathlib.Omega.{arith}
 use lib.ListN.{length, replicate}
-use Rattle.circuit.specs.Check.{wiresIn}
+use Rattle.circuit.specs.Check.{nodesIn, wiresIn}
 use Rattle.circuit.proofs.Checks.{all-below-more}
-use Rattle.runs.specs.Values.{evaluated}
 use Rattle.runs.proofs.Evaluating.{values-outputs}
 use Rattle.runs.proofs.Passing.{told, denied, evaluate-sound, evaluate-prepared, evaluate-passing}
 use borrow.Author.Needs.{needs}
@@ -35,14 +34,13 @@ same-length-2 : tie.Need-same-length-2
 same-length-2 c = search needs
 
 returns : tie.Need-returns
-unfolding evaluated
 returns c =
     let p = told (c .before .before .before .before .before .before .before .before .before .before .before .before .before .prepared .result) (c .before .before .before .before .before .before .before .before .before .before .before .before .before .prepared .ensures) (c .before .before .before .before .before .before .before .before .before .before .before .before .if1 .taken) in
     let v = c .before .before .before .before .before .before .before .before .before .before .put-values .ensures in
     let g = c .before .before .before .before .give .ensures in (
       evaluate-sound (c .before .before .before .before .before .before .before .before .before .before .before .before .before .before .before .before .before .before .before .args .nodes .now) (c .before .before .before .before .before .before .before .before .before .before .before .before .before .before .before .before .before .before .before .args .outputs .now) (c .before .before .before .before .before .before .before .before .before .before .before .before .before .before .before .before .before .before .before .args .assignment .now) (length (c .before .before .before .before .before .before .before .before .before .before .before .before .before .before .before .before .before .before .before .args .values .now)) (length (c .before .before .before .before .before .before .before .before .before .before .before .before .before .before .before .before .before .before .before .args .answers .now)) p (told (c .before .before .before .before .before .before .before .before .before .before .put-values .result) (v .0) (c .before .before .before .before .before .before .before .if2 .taken)),
       λ e. (
-        g .0 ∙ ap (λ (l : List ℕ). l ++ replicate (length (c .before .before .before .before .before .before .before .before .before .before .before .before .before .before .before .before .before .before .before .args .answers .now) - length (c .before .before .before .before .before .before .before .before .before .before .before .before .before .before .before .before .before .before .before .args .outputs .now) / 5) 0) (values-outputs _ _ (length (c .before .before .before .before .before .before .before .before .before .before .before .before .before .before .before .before .before .before .before .args .nodes .now) / 9) (wiresIn (c .before .before .before .before .before .before .before .before .before .before .before .before .before .before .before .before .before .before .before .args .outputs .now)) (v .1 (c .before .before .before .before .before .before .before .if2 .taken)) (p .wired)),
+        g .0 ∙ ap (λ (l : List ℕ). l ++ replicate (length (c .before .before .before .before .before .before .before .before .before .before .before .before .before .before .before .before .before .before .before .args .answers .now) - length (c .before .before .before .before .before .before .before .before .before .before .before .before .before .before .before .before .before .before .before .args .outputs .now) / 5) 0) (values-outputs _ (nodesIn (c .before .before .before .before .before .before .before .before .before .before .before .before .before .before .before .before .before .before .before .args .nodes .now)) (length (c .before .before .before .before .before .before .before .before .before .before .before .before .before .before .before .before .before .before .before .args .nodes .now) / 9) (wiresIn (c .before .before .before .before .before .before .before .before .before .before .before .before .before .before .before .before .before .before .before .args .outputs .now)) (c .before .before .before .before .before .before .before .before .before .before .before .before .before .before .before .before .before .before .before .args .assignment .now) (p .values) (v .1 (c .before .before .before .before .before .before .before .if2 .taken)) (p .wired)),
         g .1 ∙ ap (λ (n : ℕ). replicate n 0) (c .before .before .before .before .before .before .before .before .before .before .put-values .kept .1 .1 .1 .0),
       ),
     )

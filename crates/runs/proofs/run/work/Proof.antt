@@ -23,7 +23,7 @@ lists-cells-requires c κs = search needs
 run-store-requires : tie.Need-run-store-requires
 run-store-requires c κs =
     let p = told (c .before .before .before .before .prepared .result) (c .before .before .before .before .prepared .ensures) (c .before .before .before .if1 .taken) in
-    (omega arith, p .store-room, p .values)
+    (omega arith, p .store-room, p .values, told (c .before .before .lists-cells .result) (c .before .before .lists-cells .ensures) (c .before .if2 .taken))
 
 give-requires : tie.Need-give-requires
 give-requires c κs =

@@ -1,4 +1,4 @@
--- `run_steps` meets its contract. The invariant: the store stands as the entries passed leave it, and what is left is fit after them just if the list is.
+-- `run_steps` meets its contract. The invariant: there is a mark less for each entry passed, the store stands as they leave it, and what is left is fit after them just if the list is.
 -- Assumes nothing.
 use mathlib.Core.Path.{_≡_, refl, sym, ap, _∙_, subst}
 use mathlib.Core.Bool.{Bool, _&&_, false≢true}
@@ -11,8 +11,10 @@ use Rattle.laws.proofs.Tests.{and-true}
 use Rattle.laws.proofs.Filling.{take-next}
 use Rattle.circuit.specs.Records.{nodesOf}
 use Rattle.circuit.specs.Graph.{graphOf, ready, fit}
-use Rattle.runs.specs.Steps.{Steppable, Standing}
+use Rattle.runs.specs.Fit.{Accepted}
+use Rattle.runs.specs.Steps.{Steppable, Unmarked, Standing}
 use Rattle.runs.proofs.Passing.{told, denied}
+use Rattle.runs.proofs.Marks.{unmarked-start, unmarked-next}
 use Rattle.runs.proofs.Standing.{ready-turn, turn-ready, turn-next, list-turn, list-end, list-whole, steppable-next}
 use Rattle.runs.proofs.step.run_steps.Statement.{statement}
 use Rattle.runs.proofs.step.run_steps.Tie as tie
@@ -20,7 +22,8 @@ use Rattle.runs.proofs.step.run_steps.Tie as tie
 abbrev Inv-loop : tie.InvT-loop
 Inv-loop nodes count order values₀ answers i₀ i-end values i =
     Steppable nodes count values
-    × ((a : List ℕ) → Standing (nodesOf nodes count) a [] values₀ → Standing (nodesOf nodes count) a (take i order) values × (fit (graphOf (nodesOf nodes count)) [] order ≡ fit (graphOf (nodesOf nodes count)) (take i order) (drop i order)))
+    × Unmarked nodes count i values₀ values
+    × ((a : List ℕ) → Accepted nodes count → Standing (nodesOf nodes count) a [] values₀ → Standing (nodesOf nodes count) a (take i order) values × (fit (graphOf (nodesOf nodes count)) [] order ≡ fit (graphOf (nodesOf nodes count)) (take i order) (drop i order)))
     × (i ≤ length order)
     × (length values ≡ length values₀)
     × (i-end ≡ length order)
@@ -32,7 +35,7 @@ answer-table-requires : tie.Need-answer-table-requires Inv-loop μ-loop
 answer-table-requires c κs = search needs
 
 loop-holds : tie.Need-loop-holds Inv-loop μ-loop
-loop-holds c = (c .before .before .before .before .pre, λ a h. (h, refl), zero-le, refl, refl)
+loop-holds c = (c .before .before .before .before .pre, unmarked-start (c .before .before .before .before .args .nodes .now) (c .before .before .before .before .args .count) (c .before .before .before .before .args .values .now), λ a ok h. (h, refl), zero-le, refl, refl)
 
 mul-step : tie.Need-mul-step Inv-loop μ-loop
 mul-step c = search needs
@@ -44,19 +47,23 @@ step-requires : tie.Need-step-requires Inv-loop μ-loop
 step-requires c κs = (c .before .before .before .before .before .answer-table .ensures, c .before .before .before .before .loop .inv .0)
 
 same-length : tie.Need-same-length Inv-loop μ-loop
-same-length c = c .before .before .before .step .kept .1 .1 .1 .1 .0 ∙ c .before .before .before .before .before .before .before .before .loop .inv .3
+same-length c = c .before .before .before .step .kept .1 .1 .1 .1 .0 ∙ c .before .before .before .before .before .before .before .before .loop .inv .4
 
 returns : tie.Need-returns Inv-loop μ-loop
 returns c =
-    let h : c .before .before .before .before .before .before .before .before .loop .i < length (c .before .before .before .before .before .before .before .before .before .before .before .before .before .args .order .now) = omega arith in
-    let g = graphOf (nodesOf (c .before .before .before .before .before .before .before .before .before .before .before .before .before .args .nodes .now) (c .before .before .before .before .before .before .before .before .before .before .before .before .before .args .count)) in
-    let x = getD (c .before .before .before .before .before .before .before .before .before .before .before .before .before .args .order .now) (c .before .before .before .before .before .before .before .before .loop .i) 0 in
-    λ a st.
-    let q = c .before .before .before .before .before .before .before .before .loop .inv .1 a st in (
-      λ f. denied (c .before .before .before .step .result) (c .before .before .before .step .ensures .0) (c .if1 .left)
-          (ready-turn (c .before .before .before .before .before .before .before .before .before .before .before .before .before .args .nodes .now) (c .before .before .before .before .before .before .before .before .before .before .before .before .before .args .count) (c .before .before .before .before .before .before .before .before .before .before .before .before .before .pre .accepted) a (take (c .before .before .before .before .before .before .before .before .loop .i) (c .before .before .before .before .before .before .before .before .before .before .before .before .before .args .order .now)) (c .before .before .before .before .before .before .before .before .loop .values) (q .0) x
-          (and-true (ready g (take (c .before .before .before .before .before .before .before .before .loop .i) (c .before .before .before .before .before .before .before .before .before .before .before .before .before .args .order .now)) x) (fit g (take (c .before .before .before .before .before .before .before .before .loop .i + 1) (c .before .before .before .before .before .before .before .before .before .before .before .before .before .args .order .now)) (drop (c .before .before .before .before .before .before .before .before .loop .i + 1) (c .before .before .before .before .before .before .before .before .before .before .before .before .before .args .order .now))) (sym (q .1 ∙ list-turn g (c .before .before .before .before .before .before .before .before .before .before .before .before .before .args .order .now) (c .before .before .before .before .before .before .before .before .loop .i) h) ∙ f) .0)),
+    let a = c .before .before .before .before .before .before .before .before .before .before .before .before .before .args in
+    let l = c .before .before .before .before .before .before .before .before .loop in
+    let h : l .i < length (a .order .now) = omega arith in
+    let g = graphOf (nodesOf (a .nodes .now) (a .count)) in
+    let x = getD (a .order .now) (l .i) 0 in (
       λ e. absurd (false≢true e),
+      λ s ok st.
+          let q = l .inv .2 s ok st in (
+            λ f. denied (c .before .before .before .step .result) (c .before .before .before .step .ensures .0) (c .if1 .left)
+                (ready-turn (a .nodes .now) (a .count) ok s (take (l .i) (a .order .now)) (l .values) (q .0) x
+                (and-true (ready g (take (l .i) (a .order .now)) x) (fit g (take (l .i + 1) (a .order .now)) (drop (l .i + 1) (a .order .now))) (sym (q .1 ∙ list-turn g (a .order .now) (l .i) h) ∙ f) .0)),
+            λ e. absurd (false≢true e),
+          ),
     )
 
 add-i : tie.Need-add-i Inv-loop μ-loop
@@ -67,33 +74,41 @@ loop-less c = search needs
 
 loop-again : tie.Need-loop-again Inv-loop μ-loop
 loop-again c =
-    let h : c .before .before .before .before .before .before .before .before .loop .i < length (c .before .before .before .before .before .before .before .before .before .before .before .before .before .args .order .now) = omega arith in
-    let g = graphOf (nodesOf (c .before .before .before .before .before .before .before .before .before .before .before .before .before .args .nodes .now) (c .before .before .before .before .before .before .before .before .before .before .before .before .before .args .count)) in
-    let x = getD (c .before .before .before .before .before .before .before .before .before .before .before .before .before .args .order .now) (c .before .before .before .before .before .before .before .before .loop .i) 0 in
+    let a = c .before .before .before .before .before .before .before .before .before .before .before .before .before .args in
+    let l = c .before .before .before .before .before .before .before .before .loop in
+    let h : l .i < length (a .order .now) = omega arith in
+    let g = graphOf (nodesOf (a .nodes .now) (a .count)) in
+    let x = getD (a .order .now) (l .i) 0 in
     let t = told (c .before .before .before .step .result) (c .before .before .before .step .ensures .0) (c .if1 .taken) in
     let e = c .before .before .before .step .ensures .1 (c .if1 .taken) in (
-      steppable-next (c .before .before .before .before .before .before .before .before .before .before .before .before .before .args .nodes .now) (c .before .before .before .before .before .before .before .before .before .before .before .before .before .args .count) (c .before .before .before .before .before .before .before .before .loop .values) x _ (c .before .before .before .before .before .before .before .before .loop .inv .0) t e,
-      λ a st.
-          let q = c .before .before .before .before .before .before .before .before .loop .inv .1 a st in
-          let r = turn-ready (c .before .before .before .before .before .before .before .before .before .before .before .before .before .args .nodes .now) (c .before .before .before .before .before .before .before .before .before .before .before .before .before .args .count) (c .before .before .before .before .before .before .before .before .before .before .before .before .before .pre .accepted) a (take (c .before .before .before .before .before .before .before .before .loop .i) (c .before .before .before .before .before .before .before .before .before .before .before .before .before .args .order .now)) (c .before .before .before .before .before .before .before .before .loop .values) (q .0) x t in (
-            subst (λ (l : List ℕ). Standing (nodesOf (c .before .before .before .before .before .before .before .before .before .before .before .before .before .args .nodes .now) (c .before .before .before .before .before .before .before .before .before .before .before .before .before .args .count)) a l (c .before .before .before .step .last .1 .1 .1 .1 .0)) (take-next (c .before .before .before .before .before .before .before .before .before .before .before .before .before .args .order .now) (c .before .before .before .before .before .before .before .before .loop .i) h) (turn-next (c .before .before .before .before .before .before .before .before .before .before .before .before .before .args .nodes .now) (c .before .before .before .before .before .before .before .before .before .before .before .before .before .args .count) (c .before .before .before .before .before .before .before .before .before .before .before .before .before .pre .accepted) a (take (c .before .before .before .before .before .before .before .before .loop .i) (c .before .before .before .before .before .before .before .before .before .before .before .before .before .args .order .now)) (c .before .before .before .before .before .before .before .before .loop .values) (q .0) x r _ e),
-            q .1 ∙ list-turn g (c .before .before .before .before .before .before .before .before .before .before .before .before .before .args .order .now) (c .before .before .before .before .before .before .before .before .loop .i) h ∙ ap (λ (b : Bool). b && fit g (take (c .before .before .before .before .before .before .before .before .loop .i + 1) (c .before .before .before .before .before .before .before .before .before .before .before .before .before .args .order .now)) (drop (c .before .before .before .before .before .before .before .before .loop .i + 1) (c .before .before .before .before .before .before .before .before .before .before .before .before .before .args .order .now))) r,
+      steppable-next (a .nodes .now) (a .count) (l .values) x _ (l .inv .0) t e,
+      unmarked-next (a .nodes .now) (a .count) (l .i) (a .values .now) (l .values) x _ (l .inv .0 .stored) (l .inv .1) t e,
+      λ s ok st.
+          let q = l .inv .2 s ok st in
+          let r = turn-ready (a .nodes .now) (a .count) ok s (take (l .i) (a .order .now)) (l .values) (q .0) x t in (
+            subst (λ (m : List ℕ). Standing (nodesOf (a .nodes .now) (a .count)) s m (c .before .before .before .step .last .1 .1 .1 .1 .0)) (take-next (a .order .now) (l .i) h) (turn-next (a .nodes .now) (a .count) ok s (take (l .i) (a .order .now)) (l .values) (q .0) x r _ e),
+            q .1 ∙ list-turn g (a .order .now) (l .i) h ∙ ap (λ (b : Bool). b && fit g (take (l .i + 1) (a .order .now)) (drop (l .i + 1) (a .order .now))) r,
           ),
       omega arith,
-      c .before .before .before .step .kept .1 .1 .1 .1 .0 ∙ c .before .before .before .before .before .before .before .before .loop .inv .3,
+      c .before .before .before .step .kept .1 .1 .1 .1 .0 ∙ l .inv .4,
       refl,
     )
 
 same-length-2 : tie.Need-same-length-2 Inv-loop μ-loop
-same-length-2 c = c .before .loop .inv .3
+same-length-2 c = c .before .loop .inv .4
 
 returns-2 : tie.Need-returns-2 Inv-loop μ-loop
 returns-2 c =
-    λ a st.
-    let q = c .before .loop .inv .1 a st in
-    let h : length (c .before .before .before .before .before .before .args .order .now) ≤ c .before .loop .i = omega arith in (
-      q .1 ∙ list-end (graphOf (nodesOf (c .before .before .before .before .before .before .args .nodes .now) (c .before .before .before .before .before .before .args .count))) (c .before .before .before .before .before .before .args .order .now) (c .before .loop .i) h,
-      λ e. subst (λ (l : List ℕ). Standing (nodesOf (c .before .before .before .before .before .before .args .nodes .now) (c .before .before .before .before .before .before .args .count)) a l (c .before .loop .values)) (list-whole (c .before .before .before .before .before .before .args .order .now) (c .before .loop .i) h) (q .0),
+    let a = c .before .before .before .before .before .before .args in
+    let l = c .before .loop in
+    let h : length (a .order .now) ≤ l .i = omega arith in
+    let z : l .i ≡ length (a .order .now) = omega (arith, h, l .inv .3) in (
+      λ e. subst (λ (n : ℕ). Unmarked (a .nodes .now) (a .count) n (a .values .now) (l .values)) z (l .inv .1),
+      λ s ok st.
+          let q = l .inv .2 s ok st in (
+            q .1 ∙ list-end (graphOf (nodesOf (a .nodes .now) (a .count))) (a .order .now) (l .i) h,
+            λ e. subst (λ (m : List ℕ). Standing (nodesOf (a .nodes .now) (a .count)) s m (l .values)) (list-whole (a .order .now) (l .i) h) (q .0),
+          ),
     )
 
 pub run-steps-spec : {M : Type 1} → statement M

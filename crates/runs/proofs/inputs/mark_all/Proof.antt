@@ -8,11 +8,11 @@ use lib.ListN.{length, drop, replicate, length-set}
 use lib.Seq.{drop-length}
 use borrow.Author.Fill.{fill-more}
 use borrow.Author.Needs.{needs}
-use Rattle.runs.proofs.run.mark_all.Statement.{statement}
-use Rattle.runs.proofs.run.mark_all.Tie as tie
+use Rattle.runs.proofs.inputs.mark_all.Statement.{statement}
+use Rattle.runs.proofs.inputs.mark_all.Tie as tie
 
 abbrev Inv-loop : tie.InvT-loop
-Inv-loop values₀ i₀ i-end values i = (i ≤ length values₀) × (values ≡ replicate i 3 ++ drop i values₀) × (length values ≡ length values₀) × (i-end ≡ length values₀)
+Inv-loop values₀ i₀ i-end values i = (i ≤ length values₀) × (values ≡ replicate i 144 ++ drop i values₀) × (length values ≡ length values₀) × (i-end ≡ length values₀)
 
 abbrev μ-loop : tie.MeasureT-loop
 μ-loop values₀ i₀ i-end values i = length values₀ - i
@@ -30,7 +30,7 @@ loop-less : tie.Need-loop-less Inv-loop μ-loop
 loop-less c = search needs
 
 loop-again : tie.Need-loop-again Inv-loop μ-loop
-loop-again c = (omega arith, rw (c .before .loop .inv .1) (fill-more (c .before .loop .i) 3 (c .before .before .args .values .now) (omega arith)), simp length-set (c .before .loop .inv .2), refl)
+loop-again c = (omega arith, rw (c .before .loop .inv .1) (fill-more (c .before .loop .i) 144 (c .before .before .args .values .now) (omega arith)), simp length-set (c .before .loop .inv .2), refl)
 
 same-length : tie.Need-same-length Inv-loop μ-loop
 same-length c = c .before .loop .inv .2
