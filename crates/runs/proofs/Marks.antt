@@ -113,7 +113,7 @@ unmarked-next nodes count i before s x after l u t e =
 -- ---- the circuit check
 
 module _ (nodes : List ℕ) (count : ℕ) (assignment before : List ℕ) (i : InputsIn nodes count assignment before) where
-  -- a node that is no cell and has a value is an input
+  -- a node that has a value is an input
   unmarked-input : (k : ℕ) → k < count → getD before k 0 < 3 → (isCellNode (nodeAt nodes k) ≡ false) × (nodeBroken k (nodeAt nodes k) ≡ false)
   unfolding isCellNode
   unmarked-input k h m =
