@@ -66,6 +66,17 @@ pub record InputsIn (nodes : List ℕ) (count : ℕ) (assignment values : List �
   pub inputs : (k : ℕ) → k < count → getD values k 0 < 3 → nodeAt nodes k .kind ≡ 1
   pub graded : Graded values
 
+-- the word of a wire that is of a node before k
+abbrev pub EarlierNode : ℕ → ℕ → Type 0
+EarlierNode k word = (2 ≤ word) × (word < k + 2)
+
+-- record k has two wires, each of a node before it, and a table of four entries
+pub record TwoEarlier (nodes : List ℕ) (k : ℕ) : Type 0 where
+  pub two : getD nodes (k * 9 + 1) 0 ≡ 2
+  pub table : getD nodes (k * 9 + 2) 0 < 16
+  pub first : EarlierNode k (getD nodes (k * 9 + 7) 0)
+  pub second : EarlierNode k (getD nodes (k * 9 + 8) 0)
+
 -- ---- `evaluate`
 
 -- node k is next in storage order: the nodes before it have their values

@@ -1,13 +1,46 @@
-// The value of a wire, by its word.
+// What the words of a record say of its wires.
 ghost use mathlib.Core.Path.{_≡_};
-ghost use mathlib.Core.Bool.{false};
-ghost use Prim.Native.Nat.{_<_};
+ghost use mathlib.Core.Bool.{true, false};
+ghost use Prim.Native.Nat.{_+_, _*_, _^_, _<_, _≤_};
 ghost use lib.ListN.{length};
 ghost use Rattle.circuit.specs.Records.{wireOf};
 ghost use Rattle.circuit.specs.Check.{notBelow};
 ghost use Rattle.runs.specs.Values.{signalValue};
+ghost use Rattle.runs.specs.Work.{EarlierNode, TwoEarlier};
 
-// For a place in a table.
+// The wire is of a node before k. One comparison tells: a constant's word becomes a number past every node.
+pub fn earlier_node(word: usize, k: usize) -> bool
+    requires { ⌜ k + 2 < 2 ^ 64 ⌝ }
+    ensures { λ r. ⌜ (r ≡ true → EarlierNode k word) ⌝ }
+{
+    std::num::wrapping_sub_usize(word, 2) < k
+}
+
+// Record k has two wires, both of earlier nodes, and a table of four entries, as most cells have.
+pub fn two_earlier(nodes: &[usize], k: usize) -> bool
+    requires { ⌜ k * 9 + 9 ≤ length (now nodes) ⌝ }
+    ensures { λ r. ⌜ (r ≡ true → TwoEarlier (now (nodes .entry)) k) ⌝ }
+{
+    let at = k * 9;
+    if nodes[at + 1] == 2 {
+        if nodes[at + 2] < 16 {
+            if earlier_node(nodes[at + 7], k) {
+                return earlier_node(nodes[at + 8], k);
+            }
+        }
+    }
+    false
+}
+
+// The value of a node's wire, for a place in a table.
+pub fn node_value(word: usize, values: &[u8]) -> usize
+    requires { ⌜ EarlierNode (length (now values)) word ⌝ }
+    ensures { λ r. ⌜ (r ≡ signalValue (now (values .entry)) (wireOf word)) × (r < 256) ⌝ }
+{
+    values[word - 2] as usize
+}
+
+// The value of any wire, for a place in a table.
 pub fn wire_value(word: usize, values: &[u8]) -> usize
     requires { ⌜ notBelow (length (now values)) (wireOf word) ≡ false ⌝ }
     ensures { λ r. ⌜ (r ≡ signalValue (now (values .entry)) (wireOf word)) × (r < 256) ⌝ }
@@ -15,10 +48,10 @@ pub fn wire_value(word: usize, values: &[u8]) -> usize
     if word < 2 {
         return word;
     }
-    values[word - 2] as usize
+    node_value(word, values)
 }
 
-// For the output area.
+// The value of any wire, for the output area.
 pub fn signal_value(word: usize, values: &[u8]) -> u8
     requires { ⌜ notBelow (length (now values)) (wireOf word) ≡ false ⌝ }
     ensures { λ r. ⌜ r ≡ signalValue (now (values .entry)) (wireOf word) ⌝ }
