@@ -96,19 +96,19 @@ module _ (nodes : List ℕ) (count : ℕ) (s : List ℕ) (cells : (k : ℕ) → 
 pub unmarked-start : (nodes : List ℕ) (count : ℕ) (s : List ℕ) → Unmarked nodes count 0 s s
 unmarked-start nodes count s = record { fewer = omega arith; sound = λ k h m g. absurd (omega (arith, m, g)) }
 
-pub unmarked-next : (nodes : List ℕ) (count i : ℕ) (before s : List ℕ) (x : ℕ) (after : List ℕ) → count ≤ length s → Unmarked nodes count i before s → Turn nodes count s x → Stepped nodes x s after → Unmarked nodes count (i + 1) before after
-unmarked-next nodes count i before s x after l u t e =
+pub unmarked-next : (nodes : List ℕ) (count i : ℕ) (before s : List ℕ) (x : ℕ) (after : List ℕ) → count ≤ length s → Unmarked nodes count i before s → x < count → Turn nodes s x → Stepped nodes x s after → Unmarked nodes count (i + 1) before after
+unmarked-next nodes count i before s x after l u h t e =
     record { fewer = omega (arith, u .fewer, less); sound = at }
   where
     less : markCount count s ≡ suc (markCount count after)
-    less = rw (e .stored) (marks-set count x _ s (t .inside) (omega (arith, l, t .inside)) (t .waiting) (e .answered))
+    less = rw (e .stored) (marks-set count x _ s h (omega (arith, l, h)) (t .waiting) (e .answered))
 
     at : (k : ℕ) → k < count → 2 < getD before k 0 → getD after k 0 < 3 → (isCellNode (nodeAt nodes k) ≡ true) × (nodeBroken k (nodeAt nodes k) ≡ false)
-    at k h m g = go (eqb k x) refl
+    at k below m g = go (eqb k x) refl
       where
         go : (b : Bool) → eqb k x ≡ b → (isCellNode (nodeAt nodes k) ≡ true) × (nodeBroken k (nodeAt nodes k) ≡ false)
         go true q = subst (λ (i : ℕ). (isCellNode (nodeAt nodes i) ≡ true) × (nodeBroken i (nodeAt nodes i) ≡ false)) (sym (eqb-true k x q)) (t .ready .cell, t .ready .sound)
-        go false q = u .sound k h m (subst (λ (v : ℕ). v < 3) (ap (λ (l : List ℕ). getD l k 0) (e .stored) ∙ getD-set-other s x k _ 0 (eqb-false k x q)) g)
+        go false q = u .sound k below m (subst (λ (v : ℕ). v < 3) (ap (λ (l : List ℕ). getD l k 0) (e .stored) ∙ getD-set-other s x k _ 0 (eqb-false k x q)) g)
 
 -- ---- the circuit check
 

@@ -146,27 +146,28 @@ module _ (nodes : List ℕ) (count : ℕ) (ok : Accepted nodes count) (assignmen
       none-marked (Node n ∷ ws) e =
           rw (le-ltb 2 (getD s (n .0) 0) (omega (arith, e (n .0) (elem-here (n .0) (n .0) (nodesRead ws) refl)))) (none-marked ws (λ y m. e y (elem-later y (n .0) (nodesRead ws) m)))
 
-      pub turn-ready : Turn nodes count s x → ready graph taken x ≡ true
-      turn-ready t =
-          ready-makes graph taken x (true-of (waits graph taken x) (λ w. omega (arith, unmarked x (t .inside) w, t .waiting)))
-          (free-makes graph taken (readsOf graph x) (λ y m. free y (ap (elem y) (sym (reads-of (t .inside))) ∙ m)))
+      pub turn-ready : x < count → Turn nodes s x → ready graph taken x ≡ true
+      turn-ready h t =
+          ready-makes graph taken x (true-of (waits graph taken x) (λ w. omega (arith, unmarked x h w, t .waiting)))
+          (free-makes graph taken (readsOf graph x) (λ y m. free y (ap (elem y) (sym (reads-of h)) ∙ m)))
         where
           free : (y : ℕ) → elem y (nodesRead (wiresOf (nodeAt nodes x))) ≡ true → waits graph taken y ≡ false
           free y m =
               false-of (waits graph taken y)
-              (λ w. omega (arith, st .waiting y (omega (arith, inside (t .inside) y m, size)) w, read-small (wiresOf (nodeAt nodes x)) (t .ready .supplied) y m))
+              (λ w. omega (arith, st .waiting y (omega (arith, inside h y m, size)) w, read-small (wiresOf (nodeAt nodes x)) (t .ready .supplied) y m))
 
-      pub ready-turn : ready graph taken x ≡ true → Turn nodes count s x
-      ready-turn r =
-          record {
-            inside = h;
-            waiting = st .waiting x (omega (arith, h, size)) w;
-            ready = record {
-              cell = ap isCellNode (sym (node-of nodes count x h)) ∙ sym (cell-at (nodesOf nodes count) x) ∙ waits-cell graph taken x w;
-              sound = sym (none-broken x (nodeAt nodes x) (p .rules) (p .earlier));
-              supplied = none-marked (wiresOf (nodeAt nodes x)) value;
-            };
-          }
+      ready-turn : ready graph taken x ≡ true → (x < count) × Turn nodes s x
+      ready-turn r = (
+        h,
+        record {
+          waiting = st .waiting x (omega (arith, h, size)) w;
+          ready = record {
+            cell = ap isCellNode (sym (node-of nodes count x h)) ∙ sym (cell-at (nodesOf nodes count) x) ∙ waits-cell graph taken x w;
+            sound = sym (none-broken x (nodeAt nodes x) (p .rules) (p .earlier));
+            supplied = none-marked (wiresOf (nodeAt nodes x)) value;
+          };
+        },
+      )
         where
           w : waits graph taken x ≡ true
           w = ready-waits graph taken x r
@@ -185,7 +186,7 @@ module _ (nodes : List ℕ) (count : ℕ) (ok : Accepted nodes count) (assignmen
       turn-next r after e = record { room = t .room; right = t .right; waiting = at; small = st .small }
         where
           h : x < count
-          h = ready-turn r .inside
+          h = ready-turn r .0
 
           same : step (nodesOf nodes count) s x ≡ after
           same = ap (λ (n : BoolNode). set s x (answerOf s n)) (node-of nodes count x h) ∙ sym (e .stored)
@@ -220,9 +221,17 @@ list-end c order i h = ap (fit c (take i order)) (drop-of-length-le order h)
 pub list-whole : (order : List ℕ) (i : ℕ) → length order ≤ i → take i order ≡ order
 list-whole order i h = sym (append-nil (take i order)) ∙ ap (λ (l : List ℕ). take i order ++ l) (sym (drop-of-length-le order h)) ∙ take-append-drop i order
 
+-- the next entry of a fit list may be worked out
+pub next-turn : (nodes : List ℕ) (count : ℕ) → Accepted nodes count → (assignment order : List ℕ) (i : ℕ) → i < length order → (s : List ℕ) → Standing (nodesOf nodes count) assignment (take i order) s
+    → fit (graphOf (nodesOf nodes count)) (take i order) (drop i order) ≡ true → (getD order i 0 < count) × Turn nodes s (getD order i 0)
+next-turn nodes count ok assignment order i h s st f =
+    let g = graphOf (nodesOf nodes count) in
+    ready-turn nodes count ok assignment (take i order) s st (getD order i 0)
+    (and-true (ready g (take i order) (getD order i 0)) (fit g (take (i + 1) order) (drop (i + 1) order)) (sym (list-turn g order i h) ∙ f) .0)
+
 -- a step keeps the marks great
-pub steppable-next : (nodes : List ℕ) (count : ℕ) (s : List ℕ) (x : ℕ) (after : List ℕ) → Steppable nodes count s → Turn nodes count s x → Stepped nodes x s after → Steppable nodes count after
-steppable-next nodes count s x after p t e =
+pub steppable-next : (nodes : List ℕ) (count : ℕ) (s : List ℕ) (x : ℕ) (after : List ℕ) → Steppable nodes count s → x < count → Turn nodes s x → Stepped nodes x s after → Steppable nodes count after
+steppable-next nodes count s x after p h t e =
     record { room = p .room; stored = omega (arith, p .stored, ap length (e .stored), length-set s x (answerOf s (nodeAt nodes x))); graded = at }
   where
     at : (k : ℕ) → 2 < getD after k 0 → 143 < getD after k 0
@@ -231,7 +240,7 @@ steppable-next nodes count s x after p t e =
         go : (b : Bool) → eqb k x ≡ b → 143 < getD after k 0
         go true q =
             let v : getD after k 0 ≡ answerOf s (nodeAt nodes x) = ap (λ (l : List ℕ). getD l k 0) (e .stored) ∙ ap (λ (i : ℕ). getD (set s x (answerOf s (nodeAt nodes x))) i 0) (eqb-true k x q)
-            ∙ getD-set-same s x (answerOf s (nodeAt nodes x)) 0 (omega (arith, t .inside, p .stored)) in
+            ∙ getD-set-same s x (answerOf s (nodeAt nodes x)) 0 (omega (arith, h, p .stored)) in
             absurd (omega (arith, v, e .answered, m))
         go false q =
             let v : getD after k 0 ≡ getD s k 0 = ap (λ (l : List ℕ). getD l k 0) (e .stored) ∙ getD-set-other s x k (answerOf s (nodeAt nodes x)) 0 (eqb-false k x q) in

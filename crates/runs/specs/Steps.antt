@@ -14,6 +14,7 @@ use Rattle.circuit.specs.Check.{nodeBroken}
 use Rattle.circuit.specs.Graph.{graphOf, waits}
 use Rattle.cells.specs.Cells.{AnswerTable}
 use Rattle.runs.specs.Values.{signalValue, answerOf, storageValues}
+use Rattle.runs.specs.Fit.{Accepted}
 use Rattle.runs.specs.Work.{markCount, Graded}
 
 -- the wire is of a cell that waits
@@ -39,10 +40,14 @@ pub record Steppable (nodes : List ℕ) (count : ℕ) (values : List ℕ) : Type
   pub graded : Graded values
 
 -- node x may be worked out: it is marked and ready
-pub record Turn (nodes : List ℕ) (count : ℕ) (values : List ℕ) (x : ℕ) : Type 0 where
-  pub inside : x < count
+pub record Turn (nodes values : List ℕ) (x : ℕ) : Type 0 where
   pub waiting : 2 < getD values x 0
   pub ready : Ready x (nodeAt nodes x) values
+
+-- a lead over so many nodes: it passes node x, unless the circuit check refuses the nodes
+pub record LeadOf (nodes : List ℕ) (count x lead : ℕ) : Type 0 where
+  pub inside : lead ≤ count
+  pub short : x < count → lead ≤ x → Accepted nodes count → ⊥
 
 -- "Each entry is one step call, proved to store that cell's answer and to change no other value"
 pub record Stepped (nodes : List ℕ) (x : ℕ) (values after : List ℕ) : Type 0 where

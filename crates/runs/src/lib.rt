@@ -1,4 +1,5 @@
 // What a circuit gives: `evaluate`, the three-valued run along an order list, numbered assignments.
+pub mod ahead;
 pub mod evaluate;
 pub mod fitness;
 pub mod inputs;

@@ -10,6 +10,8 @@ ghost use Rattle.cells.specs.Cells.{AnswerTable};
 ghost use Rattle.runs.specs.Fit.{Accepted};
 ghost use Rattle.runs.specs.Work.{Tells, Graded};
 ghost use Rattle.runs.specs.Steps.{PlaceOf, Steppable, Turn, Stepped, Unmarked, Standing};
+use crate::ahead::first_lead;
+use crate::ahead::look_ahead;
 use crate::values::node_value;
 use crate::values::two_earlier;
 use crate::values::wire_value;
@@ -63,13 +65,10 @@ pub fn answer_place(nodes: &[usize], x: usize, values: &[u8]) -> usize
 }
 
 // One entry: that cell's answer is stored, and no other value changes. False where it may not be worked out now.
-pub fn step(answers: &[u8; 144], nodes: &[usize], count: usize, x: usize, values: &mut [u8]) -> bool
-    requires { ⌜ AnswerTable (now answers) × Steppable (now nodes) count (now values) ⌝ }
-    ensures { λ r. ⌜ Tells r (Turn (now (nodes .entry)) count (now (values .entry)) x) × (r ≡ true → Stepped (now (nodes .entry)) x (now (values .entry)) (now (values .exit))) ⌝ }
+pub fn step(answers: &[u8; 144], nodes: &[usize], x: usize, values: &mut [u8]) -> bool
+    requires { ⌜ AnswerTable (now answers) × (x * 9 + 9 ≤ length (now nodes)) × (x < length (now values)) × Graded (now values) ⌝ }
+    ensures { λ r. ⌜ Tells r (Turn (now (nodes .entry)) (now (values .entry)) x) × (r ≡ true → Stepped (now (nodes .entry)) x (now (values .entry)) (now (values .exit))) ⌝ }
 {
-    if count <= x {
-        return false;
-    }
     if values[x] < 3 {
         return false;
     }
@@ -87,8 +86,14 @@ pub fn run_steps(nodes: &[usize], count: usize, order: &[usize], values: &mut [u
     ensures { λ r. ⌜ (r ≡ true → Unmarked (now (nodes .entry)) count (length (now (order .entry))) (now (values .entry)) (now (values .exit))) × ((assignment : List ℕ) → Accepted (now (nodes .entry)) count → Standing (nodesOf (now (nodes .entry)) count) assignment [] (now (values .entry)) → Tells r (fit (graphOf (nodesOf (now (nodes .entry)) count)) [] (now (order .entry)) ≡ true) × (r ≡ true → Standing (nodesOf (now (nodes .entry)) count) assignment (now (order .entry)) (now (values .exit)))) ⌝ }
 {
     let answers = answer_table();
+    let mut lead = first_lead(count);
     for i in 0..order.len() {
-        if step(&answers, nodes, count, order[i], values) {} else {
+        let x = order[i];
+        lead = look_ahead(nodes, count, lead, x);
+        if lead <= x {
+            return false;
+        }
+        if step(&answers, nodes, x, values) {} else {
             return false;
         }
     }

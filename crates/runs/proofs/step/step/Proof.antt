@@ -10,14 +10,11 @@ use borrow.Author.Needs.{needs}
 use Rattle.runs.proofs.step.step.Statement.{statement}
 use Rattle.runs.proofs.step.step.Tie as tie
 
+slice-read-if1 : tie.Need-slice-read-if1
+slice-read-if1 c = search needs
+
 returns : tie.Need-returns
-returns c = (λ t. omega (arith, t .inside, c .if1 .taken), λ e. absurd (false≢true e))
-
-slice-read-if2 : tie.Need-slice-read-if2
-slice-read-if2 c = search needs
-
-returns-2 : tie.Need-returns-2
-returns-2 c = (λ t. omega (arith, t .waiting, c .if2 .taken), λ e. absurd (false≢true e))
+returns c = (λ t. omega (arith, t .waiting, c .if1 .taken), λ e. absurd (false≢true e))
 
 answer-place-requires : tie.Need-answer-place-requires
 answer-place-requires c κs = search needs
@@ -25,8 +22,8 @@ answer-place-requires c κs = search needs
 same-length : tie.Need-same-length
 same-length c = search needs
 
-returns-3 : tie.Need-returns-3
-returns-3 c = (λ t. c .before .answer-place .ensures .missed (c .if3 .taken) (t .ready), λ e. absurd (false≢true e))
+returns-2 : tie.Need-returns-2
+returns-2 c = (λ t. c .before .answer-place .ensures .missed (c .if2 .taken) (t .ready), λ e. absurd (false≢true e))
 
 element-copy-out-values : tie.Need-element-copy-out-values
 element-copy-out-values c = search needs
@@ -37,12 +34,12 @@ slice-write-values c = search needs
 same-length-2 : tie.Need-same-length-2
 same-length-2 c = search needs
 
-returns-4 : tie.Need-returns-4
-returns-4 c = (
-  record { inside = c .before .before .before .before .before .before .if1 .left; waiting = c .before .before .before .before .if2 .left; ready = c .before .before .answer-place .ensures .found (c .before .if3 .left) },
+returns-3 : tie.Need-returns-3
+returns-3 c = (
+  record { waiting = c .before .before .before .before .if1 .left; ready = c .before .before .answer-place .ensures .found (c .before .if2 .left) },
   λ e. record {
-    stored = ap (set (c .before .before .before .before .before .before .before .before .before .args .values .now) (c .before .before .before .before .before .before .before .before .before .args .x)) (c .before .before .answer-place .ensures .answer (c .before .if3 .left) (c .before .before .before .before .before .before .before .before .before .args .answers .now) (c .before .before .before .before .before .before .before .before .before .pre .0));
-    answered = answer-small (c .before .before .before .before .before .before .before .before .before .args .values .now) (nodeAt (c .before .before .before .before .before .before .before .before .before .args .nodes .now) (c .before .before .before .before .before .before .before .before .before .args .x));
+    stored = ap (set (c .before .before .before .before .before .before .before .before .args .values .now) (c .before .before .before .before .before .before .before .before .args .x)) (c .before .before .answer-place .ensures .answer (c .before .if2 .left) (c .before .before .before .before .before .before .before .before .args .answers .now) (c .before .before .before .before .before .before .before .before .pre .0));
+    answered = answer-small (c .before .before .before .before .before .before .before .before .args .values .now) (nodeAt (c .before .before .before .before .before .before .before .before .args .nodes .now) (c .before .before .before .before .before .before .before .before .args .x));
   },
 )
 
@@ -50,13 +47,12 @@ pub step-spec : {M : Type 1} → statement M
 step-spec =
     tie.close
     (tie.spec
+    slice-read-if1
     returns
-    slice-read-if2
-    returns-2
     answer-place-requires
     same-length
-    returns-3
+    returns-2
     element-copy-out-values
     slice-write-values
     same-length-2
-    returns-4)
+    returns-3)
