@@ -1,8 +1,7 @@
 // Cells: tables packed in a number, and the three-valued answers of a cell.
 ghost use mathlib.Core.Path.{_≡_};
-ghost use mathlib.Core.List.{[], _∷_};
 ghost use Prim.Native.Nat.{_<_};
-ghost use Rattle.cells.specs.Cells.{entry, setEntry, cellRule, AnswerTable};
+ghost use Rattle.cells.specs.Cells.{entry, setEntry, AnswerTable};
 
 // The answers of the two-input cells, at 9 * table + 3 * first + second: a row for each table.
 const ANSWERS: [u8; 144] = *b"\
@@ -44,20 +43,4 @@ pub fn answer_table() -> [u8; 144]
     ensures { λ r. ⌜ AnswerTable r ⌝ }
 {
     ANSWERS
-}
-
-// What a cell of two wires gives on their values.
-pub fn two_wire_answer(answers: &[u8; 144], table: usize, first: usize, second: usize) -> u8
-    requires { ⌜ AnswerTable (now answers) × (table < 16) × (first < 3) × (second < 3) ⌝ }
-    ensures { λ r. ⌜ r ≡ cellRule table (first ∷ second ∷ []) ⌝ }
-{
-    answers[9 * table + 3 * first + second]
-}
-
-// What a cell of one wire gives on its value: a cell of two whose first is 0.
-pub fn one_wire_answer(answers: &[u8; 144], table: usize, value: usize) -> u8
-    requires { ⌜ AnswerTable (now answers) × (table < 16) × (value < 3) ⌝ }
-    ensures { λ r. ⌜ r ≡ cellRule table (value ∷ []) ⌝ }
-{
-    two_wire_answer(answers, table, 0, value)
 }
