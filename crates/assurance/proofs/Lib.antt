@@ -1,2 +1,3 @@
 pub mod Assuring
 pub mod Carrying
+pub mod Refusing

@@ -1,2 +1,3 @@
 pub mod Assurance
 pub mod Carried
+pub mod Refused

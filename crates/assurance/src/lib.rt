@@ -1,8 +1,10 @@
 // Demand 3, carried by the code: the order, the run along it and `evaluate`, on lent areas.
 ghost use mathlib.Core.Path.{_≡_};
-ghost use Prim.Native.Nat.{_*_, _≤_};
+ghost use Prim.Native.Nat.{_*_, _≤_, _<_};
 ghost use lib.ListN.{length, take};
+ghost use Rattle.circuit.specs.declared.refusals.Refusal.the-variants.{UnfitOrder};
 ghost use Rattle.assurance.specs.Carried.{RanThenEvaluated, Carries};
+ghost use Rattle.assurance.specs.Refused.{RefusedRun, RefusedBoth, RefusesUnordered, RefusesRead};
 use circuit::areas::clear_bytes;
 use circuit::refusals::Refusal;
 use runs::evaluate::Evaluated;
@@ -10,6 +12,7 @@ use runs::evaluate::evaluate;
 use runs::run::Ran;
 use runs::run::run;
 use schedule::Ordered;
+use schedule::ordering::clear_all;
 use schedule::scheduled_gates_by_key;
 
 // The answers of the run and of `evaluate`.
@@ -49,9 +52,10 @@ pub fn run_ordered(
     evaluated: &mut [u8],
 ) -> Both
     ensures { λ r. ⌜ (cells ≤ length (now (order .entry)) → RanThenEvaluated (now (nodes .entry)) (now (outputs .entry)) (take cells (now (order .entry))) (now (assignment .entry)) (now (values .entry)) (now (answers .entry)) (now (evaluated .entry)) r (now (values .exit)) (now (answers .exit)) (now (evaluated .exit))) ⌝ }
+    ensures { λ r. ⌜ (length (now (order .entry)) < cells → RefusedRun UnfitOrder (length (now (values .entry))) (length (now (answers .entry))) (length (now (evaluated .entry))) r (now (values .exit)) (now (answers .exit)) (now (evaluated .exit))) ⌝ }
 {
     if order.len() < cells {
-        return refuse_both(Refusal::UnfitOrder, values, answers, evaluated);
+        return refuse_run(Refusal::UnfitOrder, values, answers, evaluated);
     }
     run_and_evaluate(
         nodes,
@@ -65,13 +69,10 @@ pub fn run_ordered(
     )
 }
 
-// Nothing was ordered: zeros everywhere.
-pub fn refuse_both(
-    e: Refusal,
-    values: &mut [u8],
-    answers: &mut [u8],
-    evaluated: &mut [u8],
-) -> Both {
+// Nothing is run: both answers are the refusal, and the run's areas are zeros.
+pub fn refuse_run(e: Refusal, values: &mut [u8], answers: &mut [u8], evaluated: &mut [u8]) -> Both
+    ensures { λ r. ⌜ RefusedRun e (length (now (values .entry))) (length (now (answers .entry))) (length (now (evaluated .entry))) r (now (values .exit)) (now (answers .exit)) (now (evaluated .exit)) ⌝ }
+{
     clear_bytes(values);
     clear_bytes(answers);
     clear_bytes(evaluated);
@@ -79,6 +80,22 @@ pub fn refuse_both(
         ran: Ran::Refused(e),
         evaluated: Evaluated::Refused(e),
     }
+}
+
+// Nothing is ordered: the schedule's areas are zeros too.
+pub fn refuse_both(
+    e: Refusal,
+    ready: &mut [usize],
+    successors: &mut [usize],
+    order: &mut [usize],
+    values: &mut [u8],
+    answers: &mut [u8],
+    evaluated: &mut [u8],
+) -> Both
+    ensures { λ r. ⌜ RefusedBoth e (length (now (ready .entry))) (length (now (successors .entry))) (length (now (order .entry))) (length (now (values .entry))) (length (now (answers .entry))) (length (now (evaluated .entry))) r (now (ready .exit)) (now (successors .exit)) (now (order .exit)) (now (values .exit)) (now (answers .exit)) (now (evaluated .exit)) ⌝ }
+{
+    clear_all(ready, successors, order);
+    refuse_run(e, values, answers, evaluated)
 }
 
 // The schedule, the run along its order, and `evaluate`.
@@ -96,10 +113,11 @@ pub fn order_and_run(
     evaluated: &mut [u8],
 ) -> Both
     ensures { λ r. ⌜ Carries (now (nodes .entry)) (now (outputs .entry)) window (now (keys .entry)) (now (assignment .entry)) (now (values .entry)) (length (now (ready .entry))) (length (now (successors .entry))) (length (now (order .entry))) (length (now (answers .entry))) (length (now (evaluated .entry))) r (now (order .exit)) (now (values .exit)) (now (answers .exit)) (now (evaluated .exit)) ⌝ }
+    ensures { λ r. ⌜ (RefusesUnordered (now (nodes .entry)) (now (outputs .entry)) window (now (keys .entry)) (length (now (ready .entry))) (length (now (successors .entry))) (length (now (order .entry))) (length (now (values .entry))) (length (now (answers .entry))) (length (now (evaluated .entry))) r (now (ready .exit)) (now (successors .exit)) (now (order .exit)) (now (values .exit)) (now (answers .exit)) (now (evaluated .exit))) ⌝ }
 {
     let ordered = scheduled_gates_by_key(nodes, outputs, window, keys, ready, successors, order);
     match ordered {
-        Ordered::Refused(e) => refuse_both(e, values, answers, evaluated),
+        Ordered::Refused(e) => refuse_run(e, values, answers, evaluated),
         Ordered::Cells(cells) => run_ordered(
             nodes,
             outputs,
@@ -130,12 +148,29 @@ pub fn run_read(
     evaluated: &mut [u8],
 ) -> Both
     ensures { λ r. ⌜ («node_count» * 9 ≤ length (now (nodes .entry)) → «output_count» * 5 ≤ length (now (outputs .entry)) → Carries (take («node_count» * 9) (now (nodes .entry))) (take («output_count» * 5) (now (outputs .entry))) window (now (keys .entry)) (now (assignment .entry)) (now (values .entry)) (length (now (ready .entry))) (length (now (successors .entry))) (length (now (order .entry))) (length (now (answers .entry))) (length (now (evaluated .entry))) r (now (order .exit)) (now (values .exit)) (now (answers .exit)) (now (evaluated .exit))) ⌝ }
+    ensures { λ r. ⌜ RefusesRead (now (nodes .entry)) «node_count» (now (outputs .entry)) «output_count» window (now (keys .entry)) (length (now (ready .entry))) (length (now (successors .entry))) (length (now (order .entry))) (length (now (values .entry))) (length (now (answers .entry))) (length (now (evaluated .entry))) r (now (ready .exit)) (now (successors .exit)) (now (order .exit)) (now (values .exit)) (now (answers .exit)) (now (evaluated .exit)) ⌝ }
 {
     if nodes.len() / 9 < node_count {
-        return refuse_both(Refusal::Broken, values, answers, evaluated);
+        return refuse_both(
+            Refusal::Broken,
+            ready,
+            successors,
+            order,
+            values,
+            answers,
+            evaluated,
+        );
     }
     if outputs.len() / 5 < output_count {
-        return refuse_both(Refusal::Broken, values, answers, evaluated);
+        return refuse_both(
+            Refusal::Broken,
+            ready,
+            successors,
+            order,
+            values,
+            answers,
+            evaluated,
+        );
     }
     order_and_run(
         &nodes[..node_count * 9],

@@ -1,13 +1,10 @@
-use mathlib.Core.Path.{_≡_, refl, sym, ap, _∙_}
 use native.Mathlib.Omega.{arith}
-use lib.ListN.{length, take}
-use denote.Ref.{now}
 use borrow.Author.Needs.{needs}
 use Rattle.assurance.proofs.run_ordered.Statement.{statement}
 use Rattle.assurance.proofs.run_ordered.Tie as tie
 
-refuse-both-requires : tie.Need-refuse-both-requires
-refuse-both-requires c κs = search needs
+refuse-run-requires : tie.Need-refuse-run-requires
+refuse-run-requires c κs = search needs
 
 same-length : tie.Need-same-length
 same-length c = search needs
@@ -19,7 +16,7 @@ same-length-3 : tie.Need-same-length-3
 same-length-3 c = search needs
 
 returns : tie.Need-returns
-returns c = λ h. absurd (omega (arith, h, c .before .before .before .before .before .before .before .before .before .before .if1 .taken))
+returns c = (λ h. absurd (omega (arith, h, c .before .before .before .before .before .before .before .before .before .before .if1 .taken)), λ h. c .before .before .before .before .before .before .refuse-run .ensures)
 
 run-and-evaluate-requires : tie.Need-run-and-evaluate-requires
 run-and-evaluate-requires c κs = search needs
@@ -34,13 +31,13 @@ same-length-6 : tie.Need-same-length-6
 same-length-6 c = search needs
 
 returns-2 : tie.Need-returns-2
-returns-2 c = λ h. c .before .before .before .before .before .before .run-and-evaluate .ensures
+returns-2 c = (λ h. c .before .before .before .before .before .before .run-and-evaluate .ensures, λ h. absurd (omega (arith, h, c .before .before .before .before .before .before .before .before .before .before .if1 .left)))
 
 pub run-ordered-spec : {M : Type 1} → statement M
 run-ordered-spec =
     tie.close
     (tie.spec
-    refuse-both-requires
+    refuse-run-requires
     same-length
     same-length-2
     same-length-3

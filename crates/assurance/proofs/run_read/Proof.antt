@@ -1,5 +1,5 @@
-use mathlib.Core.Path.{_≡_, refl, sym, ap, _∙_}
 use Prim.Native.Nat.{_*_}
+use mathlib.Core.Path.{sym}
 use native.Mathlib.Omega.{arith}
 use lib.ListN.{length, take}
 use lib.Seq.{length-take-le}
@@ -20,12 +20,6 @@ same-length-2 c = search needs
 same-length-3 : tie.Need-same-length-3
 same-length-3 c = search needs
 
-returns : tie.Need-returns
-returns c = λ a b. absurd (omega (arith, a, c .before .before .before .before .before .before .before .before .before .before .if1 .taken))
-
-refuse-both-requires-2 : tie.Need-refuse-both-requires-2
-refuse-both-requires-2 c κs = search needs
-
 same-length-4 : tie.Need-same-length-4
 same-length-4 c = search needs
 
@@ -35,23 +29,11 @@ same-length-5 c = search needs
 same-length-6 : tie.Need-same-length-6
 same-length-6 c = search needs
 
-returns-2 : tie.Need-returns-2
-returns-2 c = λ a b. absurd (omega (arith, b, c .before .before .before .before .before .before .before .before .before .before .if2 .taken))
+returns : tie.Need-returns
+returns c = (λ a b. absurd (omega (arith, a, c .before .before .before .before .before .before .before .before .before .before .before .before .before .before .before .before .before .before .before .if1 .taken)), record { few-nodes = λ h. c .before .before .before .before .before .before .before .before .before .before .before .before .refuse-both .ensures; few-outputs = λ h. c .before .before .before .before .before .before .before .before .before .before .before .before .refuse-both .ensures; unordered = λ a b. absurd (omega (arith, a, c .before .before .before .before .before .before .before .before .before .before .before .before .before .before .before .before .before .before .before .if1 .taken)) })
 
-mul-order-and-run : tie.Need-mul-order-and-run
-mul-order-and-run c = omega (arith, c .before .if1 .left)
-
-slice-aggregate-order-and-run : tie.Need-slice-aggregate-order-and-run
-slice-aggregate-order-and-run c = sym (length-take-le (c .before .before .before .before .before .before .before .before .before .before .before .before .before .args .node-count * 9) (now (c .before .before .before .before .before .before .before .before .before .before .before .before .before .args .nodes)) (omega (arith, c .before .before .if1 .left)))
-
-mul-order-and-run-2 : tie.Need-mul-order-and-run-2
-mul-order-and-run-2 c = omega (arith, c .before .if2 .left)
-
-slice-aggregate-order-and-run-2 : tie.Need-slice-aggregate-order-and-run-2
-slice-aggregate-order-and-run-2 c = sym (length-take-le (c .before .before .before .before .before .before .before .before .before .before .before .before .before .before .args .output-count * 5) (now (c .before .before .before .before .before .before .before .before .before .before .before .before .before .before .args .outputs)) (omega (arith, c .before .before .if2 .left)))
-
-order-and-run-requires : tie.Need-order-and-run-requires
-order-and-run-requires c κs = search needs
+refuse-both-requires-2 : tie.Need-refuse-both-requires-2
+refuse-both-requires-2 c κs = search needs
 
 same-length-7 : tie.Need-same-length-7
 same-length-7 c = search needs
@@ -71,8 +53,44 @@ same-length-11 c = search needs
 same-length-12 : tie.Need-same-length-12
 same-length-12 c = search needs
 
+returns-2 : tie.Need-returns-2
+returns-2 c = (λ a b. absurd (omega (arith, b, c .before .before .before .before .before .before .before .before .before .before .before .before .before .before .before .before .before .before .before .if2 .taken)), record { few-nodes = λ h. c .before .before .before .before .before .before .before .before .before .before .before .before .refuse-both2 .ensures; few-outputs = λ h. c .before .before .before .before .before .before .before .before .before .before .before .before .refuse-both2 .ensures; unordered = λ a b. absurd (omega (arith, b, c .before .before .before .before .before .before .before .before .before .before .before .before .before .before .before .before .before .before .before .if2 .taken)) })
+
+mul-order-and-run : tie.Need-mul-order-and-run
+mul-order-and-run c = search needs
+
+slice-aggregate-order-and-run : tie.Need-slice-aggregate-order-and-run
+slice-aggregate-order-and-run c = sym (length-take-le (c .before .before .before .before .before .before .before .before .before .before .before .before .before .args .node-count * 9) (now (c .before .before .before .before .before .before .before .before .before .before .before .before .before .args .nodes)) (omega (arith, c .before .before .if1 .left)))
+
+mul-order-and-run-2 : tie.Need-mul-order-and-run-2
+mul-order-and-run-2 c = search needs
+
+slice-aggregate-order-and-run-2 : tie.Need-slice-aggregate-order-and-run-2
+slice-aggregate-order-and-run-2 c = sym (length-take-le (c .before .before .before .before .before .before .before .before .before .before .before .before .before .before .args .output-count * 5) (now (c .before .before .before .before .before .before .before .before .before .before .before .before .before .before .args .outputs)) (omega (arith, c .before .before .if2 .left)))
+
+order-and-run-requires : tie.Need-order-and-run-requires
+order-and-run-requires c κs = search needs
+
+same-length-13 : tie.Need-same-length-13
+same-length-13 c = search needs
+
+same-length-14 : tie.Need-same-length-14
+same-length-14 c = search needs
+
+same-length-15 : tie.Need-same-length-15
+same-length-15 c = search needs
+
+same-length-16 : tie.Need-same-length-16
+same-length-16 c = search needs
+
+same-length-17 : tie.Need-same-length-17
+same-length-17 c = search needs
+
+same-length-18 : tie.Need-same-length-18
+same-length-18 c = search needs
+
 returns-3 : tie.Need-returns-3
-returns-3 c = λ a b. c .before .before .before .before .before .before .before .before .before .before .before .before .order-and-run .ensures
+returns-3 c = (λ a b. c .before .before .before .before .before .before .before .before .before .before .before .before .order-and-run .ensures .0, record { few-nodes = λ h. absurd (omega (arith, h, c .before .before .before .before .before .before .before .before .before .before .before .before .before .before .before .before .before .before .before .before .before .before .if1 .left)); few-outputs = λ h. absurd (omega (arith, h, c .before .before .before .before .before .before .before .before .before .before .before .before .before .before .before .before .before .before .before .before .before .if2 .left)); unordered = λ a b. c .before .before .before .before .before .before .before .before .before .before .before .before .order-and-run .ensures .1 })
 
 pub run-read-spec : {M : Type 1} → statement M
 run-read-spec =
@@ -82,21 +100,27 @@ run-read-spec =
     same-length
     same-length-2
     same-length-3
-    returns
-    refuse-both-requires-2
     same-length-4
     same-length-5
     same-length-6
-    returns-2
-    mul-order-and-run
-    slice-aggregate-order-and-run
-    mul-order-and-run-2
-    slice-aggregate-order-and-run-2
-    order-and-run-requires
+    returns
+    refuse-both-requires-2
     same-length-7
     same-length-8
     same-length-9
     same-length-10
     same-length-11
     same-length-12
+    returns-2
+    mul-order-and-run
+    slice-aggregate-order-and-run
+    mul-order-and-run-2
+    slice-aggregate-order-and-run-2
+    order-and-run-requires
+    same-length-13
+    same-length-14
+    same-length-15
+    same-length-16
+    same-length-17
+    same-length-18
     returns-3)
