@@ -1,4 +1,5 @@
 pub mod NumberLaws
+pub mod HeaderLineLaws
 pub mod HeaderLaws
 pub mod OperationLaws
 pub mod InputLaws

@@ -4,7 +4,7 @@ use mathlib.Core.Path.{sym, ap, _∙_}
 use native.Mathlib.Omega.{arith}
 use borrow.Author.Needs.{needs}
 use Rattle.bristol_rows.specs.Contracts.{addTo}
-use Rattle.bristol_rows.proofs.HeaderLaws.{add-over, add-is}
+use Rattle.bristol_rows.proofs.HeaderLineLaws.{add-over, add-is}
 use Rattle.bristol_rows.specs.declared.answers.Sum.{Sum}
 use Rattle.bristol_rows.proofs.header.add_to.Statement.{statement}
 use Rattle.bristol_rows.proofs.header.add_to.Tie as tie

@@ -3,7 +3,7 @@
 use native.Mathlib.Omega.{arith}
 use borrow.Author.Needs.{needs}
 use Rattle.bristol_rows.specs.Contracts.{wordsFrom}
-use Rattle.bristol_rows.proofs.HeaderLaws.{group-none, group-first, group-invalid, group-other, group-over, group-total}
+use Rattle.bristol_rows.proofs.HeaderLineLaws.{group-none, group-first, group-invalid, group-other, group-over, group-total}
 use Rattle.bristol_rows.proofs.NumberLaws.{each-none, each-invalid, each-value}
 use Rattle.text.specs.Numbers.{parseEach}
 use Rattle.bristol_rows.proofs.header.grouped_wire_count.Statement.{statement}

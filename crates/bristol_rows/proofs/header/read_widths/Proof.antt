@@ -5,7 +5,7 @@ use mathlib.Core.Path.{_≡_, refl, _∙_}
 use native.Mathlib.Omega.{arith}
 use borrow.Author.Needs.{needs}
 use Rattle.bristol_rows.specs.Contracts.{wordsFrom, widthsOf}
-use Rattle.bristol_rows.proofs.HeaderLaws.{widths-end, widths-invalid, widths-on}
+use Rattle.bristol_rows.proofs.HeaderLineLaws.{widths-end, widths-invalid, widths-on}
 use Rattle.bristol_rows.proofs.NumberLaws.{each-none, each-invalid, each-value, each-over}
 use Rattle.bristol_rows.specs.declared.answers.Sum.the-variants.{Is as SumIs}
 use Rattle.text.specs.Numbers.{parseEach}
