@@ -72,7 +72,7 @@ fn number(format: Format, error: &str) -> Option<usize> {
     table.iter().find(|(fits, _)| *fits).map(|(_, n)| *n)
 }
 
-fn wire_word(wire: &BoolWire) -> usize {
+pub fn wire_word(wire: &BoolWire) -> usize {
     match wire {
         BoolWire::Const(value) => usize::from(*value),
         BoolWire::Node(node) => node + 2,

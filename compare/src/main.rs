@@ -1,5 +1,5 @@
 //! Feeds the same netlists to the reference and to this library, and compares every answer, area and listing.
-//! Usage: compare PROGRAMS COUNT [SEED]             random, boundary and damaged texts
+//! Usage: compare PROGRAMS COUNT [SEED]             random, boundary and damaged texts, random circuits of few and of many cells
 //!        compare PROGRAMS --files FILE..           the files, the format by the ending
 //!        compare PROGRAMS --record FORMAT FILE..   to standard output the records of crates/replay for the files
 //! PROGRAMS is the folder of the list programs. The last line is `N compared, M differ`; the status is 1 if any differs.
@@ -7,6 +7,7 @@ mod boundaries;
 mod circuits;
 mod expected;
 mod generate;
+mod large;
 mod library;
 mod listing;
 mod reference {
@@ -16,6 +17,7 @@ mod reference {
 }
 mod report;
 mod runs;
+mod shapes;
 
 use expected::{Expected, Lent};
 use generate::{Format, Random};
@@ -25,6 +27,9 @@ use std::io::Write;
 use std::path::Path;
 
 const FORMATS: [Format; 3] = [Format::Blif, Format::Bench, Format::Bristol];
+/// One circuit of up to 3,000 cells, and one of 20,000, for so many random texts.
+const LARGE_PART: usize = 20;
+const LARGEST_PART: usize = 3000;
 const OLD: [usize; 6] = [1, 2, 3, 7, 0xDEAD_BEEF, usize::MAX];
 
 /// A text read into areas of these lengths; the refusal's number, 0 for a circuit.
@@ -117,7 +122,17 @@ fn random_texts(programs: &Path, count: usize, seed: u64) -> Report {
     for _ in 0..count {
         report.add_circuit(circuits::compare(&mut random));
     }
+    // as many as suffice to meet every shape and window, and more with the count
+    for number in 0..(count / LARGE_PART).max(70) {
+        let cells = large::some_cells(&mut random);
+        report.add_large(large::compare(&mut random, number, cells));
+    }
+    for number in 0..(count / LARGEST_PART).max(3) {
+        let cells = 20_000 + random.below(1000);
+        report.add_large(large::compare(&mut random, number, cells));
+    }
     report.require_numbers();
+    report.require_windows();
     report
 }
 

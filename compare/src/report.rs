@@ -1,10 +1,12 @@
 //! What was compared, by way, format and answer.
 use crate::generate::Format;
+use crate::large::Seen;
 use std::collections::BTreeMap;
 
 pub struct Report {
     seen: BTreeMap<(&'static str, Format, usize), usize>,
     circuits: BTreeMap<usize, usize>,
+    large: Seen,
     compared: usize,
     /// what differs, each with the length of its text
     differences: Vec<(usize, String)>,
@@ -12,7 +14,7 @@ pub struct Report {
 
 impl Report {
     pub fn new() -> Self {
-        Self { seen: BTreeMap::new(), circuits: BTreeMap::new(), compared: 0, differences: Vec::new() }
+        Self { seen: BTreeMap::new(), circuits: BTreeMap::new(), large: Seen::default(), compared: 0, differences: Vec::new() }
     }
 
     /// A text that went one way; its answer, or what differs.
@@ -34,6 +36,21 @@ impl Report {
         match answer {
             Ok(n) => *self.circuits.entry(n).or_default() += 1,
             Err(what) => self.differences.push((what.len(), what)),
+        }
+    }
+
+    pub fn add_large(&mut self, answer: Result<Seen, String>) {
+        self.compared += 1;
+        match answer {
+            Ok(seen) => self.large.add(seen),
+            Err(what) => self.differences.push((what.len(), what)),
+        }
+    }
+
+    /// The tree of the schedule took cells at every window that leads to it.
+    pub fn require_windows(&mut self) {
+        for window in self.large.unmet() {
+            self.differences.push((usize::MAX, format!("large circuits: no order on both sides has cells that the tree took at window {window}")));
         }
     }
 
@@ -69,6 +86,11 @@ impl Report {
         if !self.circuits.is_empty() {
             let parts: Vec<String> = self.circuits.iter().map(|(n, times)| if *n == 0 { format!("ordered {times}") } else { format!("{n}: {times}") }).collect();
             println!("random circuits, {}: {}", self.circuits.values().sum::<usize>(), parts.join(", "));
+        }
+        if self.large.circuits > 0 {
+            let Seen { circuits, circles, forward, orders, ranked, runs, long_runs, unfit } = &self.large;
+            println!("large circuits, {circuits}: ordered {}, 17: {circles}; run {runs}, of more than 16,384 nodes {long_runs}, 16: {forward}; each with a record broken, 15", circuits - circles);
+            println!("orders of large circuits, {orders}: with cells that the tree took {}; altered orders that the run refused, 20: {unfit}", ranked.len());
         }
         if let Some((_, what)) = self.differences.iter().min_by_key(|(len, _)| *len) {
             println!("{what}");

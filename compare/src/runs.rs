@@ -9,12 +9,9 @@ pub fn hash(x: usize, seed: usize) -> usize {
     z.wrapping_mul(0xBF58_476D_1CE4_E5B9) >> 40
 }
 
-fn key(id: usize, seed: usize) -> (usize, usize, usize) {
-    (hash(id, seed) % 3, hash(id, seed + 9) % 5, id)
-}
-
+/// Keys for so many nodes that differ in the last place.
 pub fn key_list(count: usize, seed: usize) -> Vec<u32> {
-    (0..count).map(|id| key(id, seed)).flat_map(|k| [k.0 as u32, k.1 as u32, k.2 as u32]).collect()
+    (0..count).flat_map(|id| [hash(id, seed) % 3, hash(id, seed + 9) % 5, id]).map(|n| n as u32).collect()
 }
 
 /// Areas for a schedule of so many nodes.
@@ -22,23 +19,28 @@ pub fn schedule_areas(count: usize) -> [Area<usize>; 3] {
     [Area::new(count * 3, 9), Area::new(count * 2 + 1, 9), Area::new(count, 5)]
 }
 
-/// The order on both sides; `None` if both say that cells read in a circle.
-pub fn order(circuit: &BoolCircuit, records: Records, window: usize, seed: usize) -> Result<Option<Vec<usize>>, String> {
-    let count = circuit.nodes.len();
-    let theirs = circuit.scheduled_gates_by_key(window, |id| key(id, seed));
-    let [mut ready, mut successors, mut order] = schedule_areas(count);
-    let (number, cells) = library::schedule(records, window, &key_list(count, seed), [&mut ready, &mut successors, &mut order]);
+/// The order on both sides; `None` if both say that cells read in a circle. What the reference takes on equal keys depends on
+/// `select_nth_unstable`, and 01 has "on equal keys the smallest number": so the reference's keys go on with the number, turned round,
+/// and differ, and both must take the same cells.
+pub fn order(circuit: &BoolCircuit, records: Records, window: usize, keys: &[u32]) -> Result<Option<Vec<usize>>, String> {
+    let place = |at: usize| keys[at] as usize;
+    let theirs = circuit.scheduled_gates_by_key(window, |id| (place(3 * id), place(3 * id + 1) << 32 | place(3 * id + 2), usize::MAX - id));
+    let [mut ready, mut successors, mut order] = schedule_areas(circuit.nodes.len());
+    let (number, cells) = library::schedule(records, window, keys, [&mut ready, &mut successors, &mut order]);
     let (expected, list) = match &theirs {
-        Ok(list) => ((0, list.len()), list.clone()),
-        Err(_) => ((17, 0), Vec::new()),
+        Ok(list) => ((0, list.len()), &list[..]),
+        Err(_) => ((17, 0), &[][..]),
     };
-    if (number, cells) != expected || !order.has(&list) || !ready.has(&[]) || !successors.has(&[]) {
-        return Err(format!("orders differ at window {window}: {theirs:?} and {number}, {cells}, {:?}", order.first(cells)));
+    if (number, cells) != expected || !order.has(list) || !ready.has(&[]) || !successors.has(&[]) {
+        let ours = order.first(cells);
+        let same = list.iter().zip(ours).take_while(|(a, b)| a == b).count();
+        let rest = |list: &[usize]| list[same..].iter().take(12).copied().collect::<Vec<usize>>();
+        return Err(format!("orders differ at window {window}: {expected:?} and {:?}, from place {same} on {:?} and {:?}", (number, cells), rest(list), rest(ours)));
     }
     Ok(theirs.ok())
 }
 
-fn assignments(circuit: &BoolCircuit, records: Records, list: &[usize]) -> Result<(), String> {
+pub fn assignments(circuit: &BoolCircuit, records: Records, list: &[usize]) -> Result<(), String> {
     let (count, outs) = (circuit.nodes.len(), circuit.outputs.len());
     let inputs: Vec<&str> = circuit.nodes.iter().filter_map(|n| match n { BoolNode::Input { name } => Some(name.as_str()), _ => None }).collect();
     let small = inputs.len() < 4;
@@ -68,7 +70,7 @@ fn assignments(circuit: &BoolCircuit, records: Records, list: &[usize]) -> Resul
 }
 
 /// 01: "A cell gives b when every filling of its unknown positions picks b, else 2"; the outputs of the storage order.
-fn storage_order(circuit: &BoolCircuit, assignment: &[u8]) -> Vec<u8> {
+pub fn storage_order(circuit: &BoolCircuit, assignment: &[u8]) -> Vec<u8> {
     let (mut values, mut given) = (Vec::new(), assignment.iter());
     let value = |wire: &BoolWire, values: &[u8]| match wire {
         BoolWire::Const(bit) => u8::from(*bit),
@@ -90,7 +92,7 @@ fn storage_order(circuit: &BoolCircuit, assignment: &[u8]) -> Vec<u8> {
 }
 
 /// Runs with unknown inputs: the cell rule's outputs; and where one is known, the reference's under fillings of the unknown inputs.
-fn unknowns(circuit: &BoolCircuit, records: Records, list: &[usize]) -> Result<(), String> {
+pub fn unknowns(circuit: &BoolCircuit, records: Records, list: &[usize]) -> Result<(), String> {
     let (count, outs) = (circuit.nodes.len(), circuit.outputs.len());
     let inputs: Vec<&str> = circuit.nodes.iter().filter_map(|n| match n { BoolNode::Input { name } => Some(name.as_str()), _ => None }).collect();
     for a in 0..6 {
@@ -120,7 +122,7 @@ fn unknowns(circuit: &BoolCircuit, records: Records, list: &[usize]) -> Result<(
 }
 
 /// 01's refusals of these calls on a circuit that was read: each with zeros in its areas.
-fn refusals(circuit: &BoolCircuit, records: Records, list: &[usize]) -> Result<(), String> {
+pub fn refusals(circuit: &BoolCircuit, records: Records, list: &[usize]) -> Result<(), String> {
     let (count, outs, cells) = (circuit.nodes.len(), circuit.outputs.len(), list.len());
     let inputs = count - cells;
     let keys = key_list(count, 1);
@@ -199,7 +201,7 @@ pub fn compare(circuit: &BoolCircuit, records: Records) -> Result<(), String> {
     }
     let mut list = Vec::new();
     for (window, seed) in [(1, 1), (2, 2), (3, 3), (usize::MAX, 4)] {
-        list = order(circuit, records, window, seed)?.ok_or_else(|| "a circle in a circuit that was read".to_owned())?;
+        list = order(circuit, records, window, &key_list(circuit.nodes.len(), seed))?.ok_or_else(|| "a circle in a circuit that was read".to_owned())?;
     }
     assignments(circuit, records, &list)?;
     unknowns(circuit, records, &list)?;
