@@ -1,7 +1,7 @@
 -- Laws of the sums of a name's bytes: four bytes further, and at the end.
 -- Assumes nothing.
 use Prim.Native.Nat.{ℕ, _+_, _-_, _*_, _/_, _%_, _^_, _≤_, _<_}
-use mathlib.Core.Path.{_≡_, refl, ap, _∙_}
+use mathlib.Core.Path.{_≡_, refl, sym, ap, _∙_}
 use mathlib.Core.List.{List, [], _∷_}
 use native.Mathlib.Omega.{arith}
 use lib.ListN.{length, getD}
@@ -9,18 +9,14 @@ use Rattle.laws.specs.Stretches.{stretch}
 use Rattle.names.specs.Chains.{wrappingSum, sumIn, wordOf, mixIn, mixed}
 use Rattle.names.proofs.Words.{Bytes, lowest, fourBytes, four-rest}
 
-twice : (x y : ℕ) → (x % 2 ^ 32 + y) % 2 ^ 32 ≡ (x + y) % 2 ^ 32
-twice x y = omega arith
+-- the four bytes of a number, added one after the other
+pub sum-bytes : (s w a b c d : ℕ) → a ≡ (s + w % 256) % 2 ^ 32 → b ≡ (a + w / 256 % 256) % 2 ^ 32 → c ≡ (b + w / 65536 % 256) % 2 ^ 32 → d ≡ (c + w / 16777216) % 2 ^ 32 → d ≡ sumIn s w
+unfolding sumIn wrappingSum
+sum-bytes s w a b c d e f g h = rw (sym e, sym f, sym g) h
 
-sums : (s a b c d : ℕ) → (s + (a + b + c + d)) % 2 ^ 32 ≡ ((((s + a) % 2 ^ 32 + b) % 2 ^ 32 + c) % 2 ^ 32 + d) % 2 ^ 32
-sums s a b c d =
-    let e : s + (a + b + c + d) ≡ s + a + b + c + d = omega arith in
-    rw (twice (s + a) b, twice (s + a + b) c, twice (s + a + b + c) d) (ap (λ (x : ℕ). x % 2 ^ 32) e)
-
--- the four bytes of a number, added at once
 four-sum : (s a b c d : ℕ) → a < 256 → b < 256 → c < 256 → d < 256
     → sumIn s (a + b * 256 + c * 65536 + d * 16777216) ≡ ((((s + a) % 2 ^ 32 + b) % 2 ^ 32 + c) % 2 ^ 32 + d) % 2 ^ 32
-unfolding sumIn
+unfolding sumIn wrappingSum
 four-sum s a b c d p q r t =
     let u = c + d * 256 in
     let v = b + u * 256 in
@@ -31,7 +27,7 @@ four-sum s a b c d p q r t =
     let m = lowest c d r in
     let two : w / 65536 ≡ u = omega (arith, k .1, l .1) in
     let three : w / 16777216 ≡ d = omega (arith, two, m .1) in
-    rw (is, two, three, k .0, k .1, l .0, m .0) (sums s a b c d)
+    rw (is, two, three, k .0, k .1, l .0, m .0) refl
 
 pub sum-step : (t : List ℕ) (s n i a b : ℕ) → Bytes t → i < n / 4 → s + n ≤ length t → b ≡ sumIn a (fourBytes t (s + i * 4))
     → wrappingSum b (stretch t (s + (i + 1) * 4) (n - (i + 1) * 4)) ≡ wrappingSum a (stretch t (s + i * 4) (n - i * 4))

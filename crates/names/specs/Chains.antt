@@ -15,7 +15,7 @@ wrappingSum s (b ∷ bs) = wrappingSum ((s + b) % 2 ^ 32) bs
 
 -- the same of the four bytes of a number
 unfoldable pub sumIn : ℕ → ℕ → ℕ
-sumIn s w = (s + (w % 256 + w / 256 % 256 + w / 65536 % 256 + w / 16777216)) % 2 ^ 32
+sumIn s w = wrappingSum s (w % 256 ∷ w / 256 % 256 ∷ w / 65536 % 256 ∷ w / 16777216 ∷ [])
 
 -- "the bucket from a 32-bit wrapping sum of the name's bytes, modulo 256"
 unfoldable pub bucketOf : List ℕ → ℕ

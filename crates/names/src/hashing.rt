@@ -4,6 +4,7 @@ ghost use Prim.Native.Nat.{_+_, _-_, _*_, _/_, _^_, _<_, _≤_};
 ghost use lib.ListN.{length, getD};
 ghost use Rattle.laws.specs.Stretches.{stretch};
 ghost use Rattle.names.specs.Chains.{wrappingSum, sumIn, bucketOf, wordOf, mixIn, mixed, trailOf};
+use std::num::wrapping_add_u32;
 
 // A byte as a word.
 pub fn wide(b: u8) -> usize
@@ -56,9 +57,20 @@ pub fn last_bytes(text: &[u8], at: usize, len: usize) -> usize
     word % (1 << (len * 8))
 }
 
+// The wrapping sum of a name's bytes, with the four of a number more.
+pub fn add_bytes(sum: u32, word: usize) -> u32
+    requires { ⌜ word < 2 ^ 32 ⌝ }
+    ensures { λ r. ⌜ (r ≡ sumIn sum word) × (r < 2 ^ 32) ⌝ }
+{
+    let a = wrapping_add_u32(sum, (word % 256) as u32);
+    let b = wrapping_add_u32(a, (word / 256 % 256) as u32);
+    let c = wrapping_add_u32(b, (word / 65536 % 256) as u32);
+    wrapping_add_u32(c, (word / 16777216) as u32)
+}
+
 // The sum and the mix of the bytes so far.
 pub struct Sums {
-    pub sum: usize,
+    pub sum: u32,
     pub mix: usize,
 }
 
@@ -68,9 +80,9 @@ pub fn add_word(sums: Sums, word: usize) -> Sums
     ensures { λ r. ⌜ (r .sum ≡ sumIn (sums .sum) word) × (r .sum < 2 ^ 32) ⌝ }
     ensures { λ r. ⌜ (r .mix ≡ mixIn (sums .mix) word) × (r .mix < 2 ^ 32) ⌝ }
 {
-    let bytes = word % 256 + word / 256 % 256 + word / 65536 % 256 + word / 16777216;
+    let sum = add_bytes(sums.sum, word);
     Sums {
-        sum: (sums.sum + bytes) % 4294967296,
+        sum,
         mix: (sums.mix + word) * 1540483477 / 2048 % 4294967296,
     }
 }
@@ -108,7 +120,7 @@ pub fn hash_of(text: &[u8], start: usize, len: usize) -> Hash
     let word = last_bytes(text, start + whole, len - whole);
     let all = add_word(sums, word);
     Hash {
-        bucket: all.sum % 256,
+        bucket: (all.sum % 256) as usize,
         trail: all.mix / 1024,
     }
 }

@@ -31,6 +31,9 @@ last-bytes-requires c κs = search needs
 add-word-requires : tie.Need-add-word-requires
 add-word-requires c κs = search needs
 
+cast-t8 : tie.Need-cast-t8
+cast-t8 c = search needs
+
 returns : tie.Need-returns
 unfolding bucketOf trailOf
 returns c =
@@ -49,4 +52,5 @@ hash-of-spec =
     sub-last-bytes
     last-bytes-requires
     add-word-requires
+    cast-t8
     returns)
