@@ -2,6 +2,7 @@ pub mod EightLaws
 pub mod RunLaws
 pub mod ByteLaws
 pub mod BlankLaws
+pub mod BlockLaws
 pub mod WordLaws
 pub mod LineLaws
 pub mod JoinLaws

@@ -1,6 +1,6 @@
 -- Laws of lines: the next line of a text, what is kept of it, and the next kept line.
 -- Assumes nothing.
-use Prim.Native.Nat.{ℕ, suc, _+_, _-_, _≤_, _<_}
+use Prim.Native.Nat.{ℕ, suc, _+_, _-_, _≤_, _<_, min}
 use mathlib.Core.Path.{_≡_, refl, sym, ap, ap₂, _∙_}
 use mathlib.Core.Bool.{Bool, true, false, cond}
 use mathlib.Core.List.{List, [], _∷_}
@@ -11,7 +11,8 @@ use Rattle.laws.specs.Stretches.{stretch, run, isNot, isEmpty}
 use Rattle.laws.proofs.Stretches.{rest-end, part-step, head-step, stretch-none, stretch-all, take-stretch, drop-part, run-length, length-stretch, length-stretch-le}
 use Rattle.text.specs.Blanks.{trim}
 use Rattle.text.specs.Words.{bytesOf}
-use Rattle.text.specs.Lines.{addFirst, rawLines, places, lines, uncommented, kept, keptOf, keptLines}
+use Rattle.text.specs.Lines.{addFirst, rawLines, places, lines, uncommented, kept, keptOf, keptLines, FirstComment, EarlierComment}
+use Rattle.text.proofs.RunLaws.{run-take, pass-near}
 use Rattle.text.specs.declared.words.Word.{Word}
 
 -- ---- lines at byte 10
@@ -85,6 +86,28 @@ kept-made t from end cut w fe el pc ce pw =
     let u : uncommented l ≡ stretch t from (cut - from) =
     uncommented-run l ∙ ap (λ (j : ℕ). take j l) (sym c) ∙ take-stretch (cut - from) t from (end - from) (omega arith) in
     rw u pw
+
+-- ---- the first `#` from a place on
+
+-- the first of the text cuts the line, if it lies in it
+pub comment-in : (t : List ℕ) (from end comment cut : ℕ) → from ≤ end → end ≤ length t → FirstComment t from comment → cut ≡ min comment end
+    → cut ≡ from + run (isNot 35) (stretch t from (end - from))
+unfolding stretch
+comment-in t from end comment cut fe el first e =
+    let n = run (isNot 35) (drop from t) in
+    let a : run (isNot 35) (take (length t - from) (drop from t)) ≡ min (length t - from) n = run-take (isNot 35) (length t - from) (drop from t) in
+    let b : run (isNot 35) (take (end - from) (drop from t)) ≡ min (end - from) n = run-take (isNot 35) (end - from) (drop from t) in
+    omega (arith, fe, el, first, e, a, b)
+
+-- the one from an earlier place on, if it isn't passed
+pub comment-on : (t : List ℕ) (at comment : ℕ) → at ≤ length t → EarlierComment t at comment → at ≤ comment → FirstComment t at comment
+comment-on t at comment al e h =
+    let from = e .from in
+    let i = from + run (isNot 35) (stretch t from (at - from)) in
+    let n = run (isNot 35) (drop from t) in
+    let a : run (isNot 35) (stretch t from (length t - from)) ≡ min (length t - from) n = unfold stretch in run-take (isNot 35) (length t - from) (drop from t) in
+    let b : run (isNot 35) (stretch t from (at - from)) ≡ min (at - from) n = unfold stretch in run-take (isNot 35) (at - from) (drop from t) in
+    e .first ∙ sym (pass-near (isNot 35) t from at (length t) (e .before) al i refl (omega (arith, e .before, al, e .first, h, a, b)))
 
 -- ---- kept lines
 

@@ -1,12 +1,12 @@
 -- Lines: at byte 10; what is kept of them; and the places of the lines of a text.
 -- Assumes nothing.
-use Prim.Native.Nat.{ℕ, _+_, _≤_, _<_}
+use Prim.Native.Nat.{ℕ, _+_, _-_, _≤_, _<_}
 use mathlib.Core.Path.{_≡_}
 use mathlib.Core.Bool.{cond}
 use mathlib.Core.List.{List, [], _∷_}
 use lib.ListN.{length, drop}
 use lib.Dec.{eqb}
-use Rattle.laws.specs.Stretches.{stretch, isEmpty}
+use Rattle.laws.specs.Stretches.{stretch, run, isNot, isEmpty}
 use Rattle.text.specs.Blanks.{trim}
 use Rattle.text.specs.Words.{words, bytesOf}
 use Rattle.text.specs.declared.words.Word.{Word}
@@ -51,6 +51,16 @@ keptOf (raw ∷ rest) = cond (isEmpty (kept raw)) (keptOf rest) (kept raw ∷ ke
 -- "Bristol text is treated so too, with no continuation."
 unfoldable pub keptLines : List ℕ → List (List ℕ)
 keptLines text = keptOf (rawLines text)
+
+-- the place of the first `#` of a text from a place on; its end if there is none
+abbrev pub FirstComment : List ℕ → ℕ → ℕ → Type 0
+FirstComment t at comment = comment ≡ at + run (isNot 35) (stretch t at (length t - at))
+
+-- the same from some place on that is not past `at`
+pub record EarlierComment (t : List ℕ) (at comment : ℕ) : Type 0 where
+  pub from : ℕ
+  pub before : from ≤ at
+  pub first : FirstComment t from comment
 
 -- the next kept line of a text from a position on, where a raw line starts; of length 0 if there is none
 pub record NextLine (t : List ℕ) (from : ℕ) (l : Line) : Type 0 where

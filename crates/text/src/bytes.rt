@@ -1,10 +1,13 @@
 // Bytes: a text of ASCII alone, a byte's first place, words compared, zeros.
 ghost use mathlib.Core.Path.{_≡_};
+ghost use mathlib.Core.Bool.{cond};
 ghost use mathlib.Core.List.{_++_};
 ghost use Prim.Native.Nat.{_+_, _-_, _≤_, max};
+ghost use lib.Dec.{eqb};
 ghost use lib.ListN.{length, take, replicate};
+ghost use Rattle.laws.specs.Lists.{some};
 ghost use Rattle.laws.specs.Stretches.{stretch, run, isNot, sameBytes};
-ghost use Rattle.text.specs.Bytes.{isAscii, upper, isNamed};
+ghost use Rattle.text.specs.Bytes.{isAscii, isByte, upper, isNamed};
 use crate::eights::find_between;
 use crate::eights::least;
 use crate::eights::wide;
@@ -50,16 +53,59 @@ pub fn scan_byte(text: &[u8], x: u8, from: usize, end: usize) -> usize
     i
 }
 
-// The same where it is mostly far, as the end of a line is: eight bytes at a time.
+// 1 for two bytes that are the same.
+pub fn equal(a: u8, b: u8) -> u8
+    ensures { λ r. ⌜ r ≡ cond (eqb a b) 1 0 ⌝ }
+{
+    if a == b {
+        return 1;
+    }
+    0
+}
+
+// Whether one of 32 bytes is x, found with no way out in between, so that many bytes go at a time.
+pub fn block_has(text: &[u8], x: u8, at: usize) -> bool
+    requires { ⌜ at + 32 ≤ length (now text) ⌝ }
+    ensures { λ r. ⌜ r ≡ some (isByte x) (stretch (now (text .entry)) at 32) ⌝ }
+{
+    let mut hit: u8 = 0;
+    let mut i = 0;
+    while i < 32 {
+        hit = greater_byte(hit, equal(text[at + i], x));
+        i += 1;
+    }
+    if hit == 0 {
+        return false;
+    }
+    true
+}
+
+// A place up to which there is no x: past all blocks of 32 bytes in front that have none.
+pub fn skip_blocks(text: &[u8], x: u8, from: usize, end: usize) -> usize
+    requires { ⌜ (from ≤ end) × (end ≤ length (now text)) ⌝ }
+    ensures { λ r. ⌜ (r + run (isNot x) (stretch (now (text .entry)) r (end - r)) ≡ from + run (isNot x) (stretch (now (text .entry)) from (end - from))) × (r ≤ end) ⌝ }
+{
+    let mut i = from;
+    while 32 <= end - i {
+        if block_has(text, x, i) {
+            return i;
+        }
+        i += 32;
+    }
+    i
+}
+
+// The same where it is mostly far, as the end of a line is: 32 bytes at a time, then eight.
 pub fn find_far_byte(text: &[u8], x: u8, from: usize, end: usize) -> usize
     requires { ⌜ (from ≤ end) × (end ≤ length (now text)) ⌝ }
     ensures { λ r. ⌜ (r ≡ from + run (isNot x) (stretch (now (text .entry)) from (end - from))) × (r ≤ end) ⌝ }
 {
     let b = wide(x);
+    let i = skip_blocks(text, x, from, end);
     if 128 <= b {
-        return scan_byte(text, x, from, end);
+        return scan_byte(text, x, i, end);
     }
-    find_between(text, b, b, from, end)
+    find_between(text, b, b, i, end)
 }
 
 // The same where it is mostly near, as the end of a word is: eight bytes one by one, then as above.

@@ -6,12 +6,14 @@ ghost use Prim.Native.Nat.{_+_, _-_, _≤_, _<_};
 ghost use lib.ListN.{length, take};
 ghost use lib.Dec.{eqb};
 ghost use Rattle.laws.specs.Stretches.{stretch};
+ghost use Rattle.text.specs.Lines.{FirstComment};
 ghost use Rattle.text.specs.Joining.{continued, part, joinedText, Joins};
 ghost use Rattle.text.specs.Writing.{added, still, addedBy, stillBy, Puts};
 use crate::blanks::trim_end;
 use crate::bytes::clear_bytes;
 use crate::bytes::find_far_byte;
-use crate::lines::kept_line;
+use crate::lines::kept_before;
+use crate::lines::next_comment;
 
 // Whether a stretch ends in `\`.
 pub fn is_continued(text: &[u8], start: usize, len: usize) -> bool
@@ -106,20 +108,21 @@ pub fn put_line(
     }
 }
 
-// A raw line.
+// A raw line; the first `#` from its start on stands at `comment`, which may lie past its end.
 pub fn put_raw(
     text: &[u8],
     from: usize,
     end: usize,
+    comment: usize,
     joined: &mut [u8],
     out: usize,
     gathered: bool,
 ) -> Put
-    requires { ⌜ (from ≤ end) × (end ≤ length (now text)) ⌝ }
+    requires { ⌜ (from ≤ end) × (end ≤ length (now text)) × FirstComment (now text) from comment ⌝ }
     requires { ⌜ out + length (addedBy gathered (stretch (now text) from (end - from))) ≤ length (now joined) ⌝ }
     ensures { λ r. ⌜ Puts (now (joined .entry)) (now (joined .exit)) out (r .out) (addedBy gathered (stretch (now (text .entry)) from (end - from))) × (r .gathered ≡ stillBy gathered (stretch (now (text .entry)) from (end - from))) ⌝ }
 {
-    let w = kept_line(text, from, end);
+    let w = kept_before(text, from, end, comment);
     let start = w.start;
     let len = w.len;
     if len == 0 {
@@ -137,9 +140,11 @@ pub fn put_lines(text: &[u8], joined: &mut [u8]) -> usize
     let mut at = 0;
     let mut out = 0;
     let mut gathered = false;
+    let mut comment = find_far_byte(text, 35, 0, size);
     while at < size {
         let end = find_far_byte(text, 10, at, size);
-        let p = put_raw(text, at, end, joined, out, gathered);
+        comment = next_comment(text, at, comment);
+        let p = put_raw(text, at, end, comment, joined, out, gathered);
         out = p.out;
         gathered = p.gathered;
         at = end + 1;
