@@ -27,8 +27,7 @@ pub fn eight_bytes(text: &[u8], at: usize) -> usize
     let g = wide(text[at + 6]);
     let h = wide(text[at + 7]);
     let low = a + b * 256 + c * 65536 + d * 16777216;
-    let high = e + f * 256 + g * 65536 + h * 16777216;
-    low + high * 4294967296
+    low + e * 4294967296 + f * 1099511627776 + g * 281474976710656 + h * 72057594037927936
 }
 
 // Whether a byte lies from `low` to `high`.
