@@ -26,8 +26,9 @@ use Rattle.bench_gates.specs.declared.operations.Operation.{Operation}
 use Rattle.bench_gates.specs.declared.operations.Operation.the-variants.{Other}
 use Rattle.bench_gates.specs.Operations.{operationOf}
 use Rattle.bench_gates.specs.Gates.{inputWires, onlyOne, lowerGate}
+use Rattle.bench_gates.specs.declared.inputs.Wires.{Wires}
 use Rattle.bench_gates.specs.Walks.{faultOf, Driven, FirstWires}
-use Rattle.bench_gates.proofs.Drivers.{driven}
+use Rattle.bench_gates.proofs.Drivers.{driven, noWires}
 use Rattle.bench.specs.declared.gates.Plan.{Plan}
 use Rattle.bench.specs.declared.declarations.Named.{Named}
 use Rattle.bench.specs.declared.declarations.Declaration.{Declaration}
@@ -42,7 +43,7 @@ abbrev gate : Operation → List ℕ → Gate
 gate o xs = record { operation = o; inputs = xs }
 
 abbrev noPlan : Refusal → Plan
-noPlan e = record { fault = Refused e; start = 0; len = 0; operation = Other; from = 1; end = 0; inputs = 0; first = 0; second = 0 }
+noPlan e = record { fault = Refused e; start = 0; len = 0; operation = Other; from = 1; end = 0; inputs = 0; wires = noWires }
 
 pub plan-refused : (t : List ℕ) (es : List Entry) (out : Word) (e : Refusal) (p : Plan) (g : Try Gate) → p ≡ noPlan e → no e ≡ g → PlanIs t es out p g
 plan-refused t es out e p g q r = record {
@@ -68,16 +69,16 @@ module _ (t : List ℕ) (es : List Entry) (i : Invocation) where
         go (yes xs) h = absurd (refused-sound (sym h))
 
     pub plan-made : InvocationIs t i (outcome (i .fault) (invoked t i)) → f ≡ Sound → (o : Operation) → o ≡ operationOf (bytesOf t (invoked t i .operation))
-        → (out : Word) → out .start + out .len ≤ length t → (first second : ℕ) → FirstWires t es (argumentsFrom t (i .from) (i .end)) first second
-        → PlanIs t es out (record { fault = Sound; start = out .start; len = out .len; operation = o; from = i .from; end = i .end; inputs = i .count; first = first; second = second }) (andThen (outcome (i .fault) (invoked t i)) (gateInvoked t es))
+        → (out : Word) → out .start + out .len ≤ length t → (w : Wires) → FirstWires t es (argumentsFrom t (i .from) (i .end)) w
+        → PlanIs t es out (record { fault = Sound; start = out .start; len = out .len; operation = o; from = i .from; end = i .end; inputs = i .count; wires = w }) (andThen (outcome (i .fault) (invoked t i)) (gateInvoked t es))
     unfolding gateInvoked
-    plan-made v q o eo out h first second w = record {
+    plan-made v q o eo out h w firsts = record {
       is = rw (s, eo);
       out-is = λ _. refl;
       inside = h;
       reach = v .reach;
       driven = λ _. driven t es (argumentsFrom t (i .from) (i .end)) (i .count) (sym q ∙ d) (v .count-is);
-      firsts = λ _. w;
+      firsts = λ _. firsts;
     }
 
 module _ (t : List ℕ) (out expression : Word) (es : List Entry) where

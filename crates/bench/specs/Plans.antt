@@ -26,7 +26,7 @@ pub record PlanIs (t : List ℕ) (es : List Entry) (out : Word) (p : Plan) (g : 
   pub inside : p .start + p .len ≤ length t
   pub reach : p .end ≤ length t
   pub driven : p .fault ≡ Sound → Driven t es (argumentsFrom t (p .from) (p .end)) (p .inputs)
-  pub firsts : p .fault ≡ Sound → FirstWires t es (argumentsFrom t (p .from) (p .end)) (p .first) (p .second)
+  pub firsts : p .fault ≡ Sound → FirstWires t es (argumentsFrom t (p .from) (p .end)) (p .wires)
 
 -- a declaration, or the fault
 pub record NamedIs (t : List ℕ) (r : Named) (d : Try Declared) : Type 0 where

@@ -14,6 +14,7 @@ ghost use Rattle.bench_gates.specs.declared.operations.Operation.the-variants.{
 ghost use Rattle.bench.specs.Bench.{gateInvoked, gateOf, gateLine};
 ghost use Rattle.bench.specs.Plans.{PlanIs};
 use bench_gates::gates::lower_bench_gate;
+use bench_gates::inputs::Wires;
 use bench_gates::inputs::input_wires;
 use bench_gates::operations::Operation;
 use bench_gates::operations::operation_of;
@@ -27,7 +28,7 @@ use reading::records::Step;
 use reading::records::find_wire;
 use text::words::trim;
 
-// A gate that is read: its output, its operation, where its arguments start and end, how many they are, and the wires of the first two.
+// A gate that is read: its output, its operation, where its arguments start and end, how many they are, and the wires of the first three.
 pub struct Plan {
     pub fault: Checked,
     pub start: usize,
@@ -36,12 +37,11 @@ pub struct Plan {
     pub from: usize,
     pub end: usize,
     pub inputs: usize,
-    pub first: usize,
-    pub second: usize,
+    pub wires: Wires,
 }
 
 pub fn refused_plan(e: Refusal) -> Plan
-    ensures { λ r. ⌜ r ≡ record { fault = Refused e; start = 0; len = 0; operation = Other; from = 1; end = 0; inputs = 0; first = 0; second = 0 } ⌝ }
+    ensures { λ r. ⌜ r ≡ record { fault = Refused e; start = 0; len = 0; operation = Other; from = 1; end = 0; inputs = 0; wires = record { first = 0; second = 0; third = 0 } } ⌝ }
 {
     Plan {
         fault: Checked::Refused(e),
@@ -51,8 +51,11 @@ pub fn refused_plan(e: Refusal) -> Plan
         from: 1,
         end: 0,
         inputs: 0,
-        first: 0,
-        second: 0,
+        wires: Wires {
+            first: 0,
+            second: 0,
+            third: 0,
+        },
     }
 }
 
@@ -79,12 +82,13 @@ pub fn plan_inputs(
     if let Checked::Refused(e) = fault {
         return refused_plan(e);
     }
-    let wires = input_wires(text, from, end, heads, names, count);
-    let driven = wires.fault;
+    let found = input_wires(text, from, end, heads, names, count);
+    let driven = found.fault;
     if let Checked::Refused(e) = driven {
         return refused_plan(e);
     }
     let operation = operation_of(text, at, size);
+    let wires = found.wires;
     Plan {
         fault: Checked::Sound,
         start,
@@ -93,8 +97,7 @@ pub fn plan_inputs(
         from,
         end,
         inputs: i.count,
-        first: wires.first,
-        second: wires.second,
+        wires,
     }
 }
 
@@ -146,6 +149,7 @@ pub fn gate_line(
     let p = plan_gate(text, at, cut, end, heads, names, m);
     let fault = p.fault;
     let operation = p.operation;
+    let wires = p.wires;
     match fault {
         Checked::Refused(e) => Step {
             fault: Checked::Refused(e),
@@ -159,8 +163,7 @@ pub fn gate_line(
             p.from,
             p.end,
             p.inputs,
-            p.first,
-            p.second,
+            wires,
             counts,
             heads,
             nodes,

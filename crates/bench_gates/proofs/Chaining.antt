@@ -24,6 +24,7 @@ use Rattle.reading.specs.Reading.{Places, placesIn, Held, find, addNode, addNam
 use Rattle.reading.specs.Holding.{outcome, NodesKept}
 use Rattle.bench_invocations.specs.Walks.{argumentsFrom}
 use Rattle.bench_gates.specs.declared.chains.Chained.{Chained}
+use Rattle.bench_gates.specs.declared.inputs.Wires.{Wires}
 use Rattle.bench_gates.specs.declared.operations.Binary.{Binary}
 use Rattle.bench_gates.specs.Gates.{inputWires, stepCell, lastCell, withNodes, chain}
 use Rattle.bench_gates.specs.Walks.{CellIs, chainWords, ChainedIs}
@@ -52,6 +53,11 @@ wire-fits w x e h = rw (e, wire-word x) h
 
 -- ---- a step of the chain
 
+-- what comes after a fault, or none, of what was made
+check-made : {A B : Type 0} (f : Checked) (a : A) (k : A → Try B) → checkThen f (k a) ≡ andThen (outcome f a) k
+check-made Sound a k = refl
+check-made (Refused e) a k = refl
+
 module _ (t : List ℕ) (p : Places) (out : Word) (o : Binary) (k x : ℕ) (w : Word) (h : Held) where
   pub step-none : (rest : List Word) → 1 ≤ length rest → find true t w (h .names) ≡ Nothing → no NoDriver ≡ chainWords t p out o k x (w ∷ rest) h
   unfolding chainWords
@@ -63,12 +69,7 @@ module _ (t : List ℕ) (p : Places) (out : Word) (o : Binary) (k x : ℕ) (w : 
       → checkThen f (chainWords t p out o (suc k) (length (h .nodes) + 2) rest (withNodes ns (h .names))) ≡ chainWords t p out o k x (w ∷ rest) h
   unfolding chainWords
   step-made [] l y e f ns q = absurd (omega arith)
-  step-made (v ∷ vs) l y e f ns q = rw (e, ← q) (go f)
-    where
-      go : (g : Checked) → checkThen g (chainWords t p out o (suc k) (length (h .nodes) + 2) (v ∷ vs) (withNodes ns (h .names)))
-          ≡ andThen (outcome g ns) (λ ms. chainWords t p out o (suc k) (length (h .nodes) + 2) (v ∷ vs) (withNodes ms (h .names)))
-      go Sound = refl
-      go (Refused r) = refl
+  step-made (v ∷ vs) l y e f ns q = rw (e, ← q) (check-made f ns (λ ms. chainWords t p out o (suc k) (length (h .nodes) + 2) (v ∷ vs) (withNodes ms (h .names))))
 
   pub last-none : (rest : List Word) → length rest ≡ 0 → find true t w (h .names) ≡ Nothing → no NoDriver ≡ chainWords t p out o k x (w ∷ rest) h
   unfolding chainWords
@@ -91,6 +92,13 @@ unfolding addNamed
 same-places n m l out x h = refl
 
 -- ---- the chain of the wires
+
+-- three wires: the step of the first two, n nodes being there, then the last cell
+pub triple-chained : (p : Places) (out : Word) (o : Binary) (w : Wires) (h : Held) (n : ℕ) → length (h .nodes) ≡ n → (f : Checked) (ns : List BoolNode)
+    → outcome f ns ≡ addNode (p .nodes) (stepCell out o 1 (w .first) (w .second)) (h .nodes)
+    → checkThen f (addNamed p out (lastCell out o (n + 2) (w .third)) (withNodes ns (h .names))) ≡ chain p out o 1 (w .first) (w .second ∷ w .third ∷ []) h
+unfolding chain
+triple-chained p out o w h n e f ns q = rw (← q, ← e) (check-made f ns (λ ms. addNamed p out (lastCell out o (length (h .nodes) + 2) (w .third)) (withNodes ms (h .names))))
 
 module _ (t : List ℕ) (es : List Entry) (p : Places) (out : Word) (o : Binary) where
   abbrev ChainOf : List Word → Type 0

@@ -6,9 +6,10 @@ use mathlib.Core.Bool.{Bool, true, false, cond, not, _&&_}
 use mathlib.Core.List.{List, [], _∷_, _++_, append-assoc, append-nil}
 use native.Mathlib.Nat.{add-zero}
 use native.Mathlib.Omega.{arith}
-use lib.ListN.{length, getD, length-append}
-use lib.Dec.{eqb}
-use borrow.Author.Tests.{eq-eqb, ne-eqb}
+use lib.ListN.{length, getD, length-append, List·getD-eq-default}
+use lib.Dec.{eqb, ltb}
+use borrow.Author.Tests.{eqb-true, eqb-false, ltb-true, ltb-false}
+use Rattle.laws.proofs.Filling.{snoc-below, snoc-last, snoc-past}
 use Rattle.circuit.specs.declared.refusals.Refusal.{Refusal}
 use Rattle.circuit.specs.declared.refusals.Refusal.the-variants.{Malformed, NoDriver, WrongCount}
 use Rattle.circuit.specs.declared.refusals.Checked.{Checked}
@@ -20,7 +21,8 @@ use Rattle.names.specs.declared.Found.{Found}
 use Rattle.names.specs.declared.Found.the-variants.{At, Nothing}
 use Rattle.reading.specs.Reading.{find, driver}
 use Rattle.bench_gates.specs.Gates.{inputWires, onlyOne}
-use Rattle.bench_gates.specs.Walks.{faultOf, Driven, FirstWires}
+use Rattle.bench_gates.specs.declared.inputs.Wires.{Wires}
+use Rattle.bench_gates.specs.Walks.{faultOf, Driven, AreFirst, FirstWires}
 
 -- ---- drivers
 
@@ -90,42 +92,53 @@ module _ (t : List ℕ) (es : List Entry) where
 
 -- ---- a walk over the inputs: the wires so far
 
-pub record Walking (t : List ℕ) (es : List Entry) (left all : List Word) (n first second : ℕ) : Type 0 where
+pub record Walking (t : List ℕ) (es : List Entry) (left all : List Word) (n : ℕ) (w : Wires) : Type 0 where
   pub done : List ℕ
   pub whole : inputWires t es all ≡ andThen (inputWires t es left) (λ ys. yes (done ++ ys))
   pub number : length done ≡ n
-  pub first-is : first ≡ getD done 0 0
-  pub second-is : second ≡ getD done 1 0
+  pub kept : AreFirst w done
 
-first-kept : (xs : List ℕ) (n x f : ℕ) → length xs ≡ n → f ≡ getD xs 0 0 → cond (eqb n 0) x f ≡ getD (xs ++ (x ∷ [])) 0 0
-first-kept [] n x f l e = rw (eq-eqb n 0 (sym l))
-first-kept (y ∷ ys) n x f l e = rw (ne-eqb n 0 (omega arith)) e
+-- before the first input
+abbrev pub noWires : Wires
+noWires = record { first = 0; second = 0; third = 0 }
 
-second-kept : (xs : List ℕ) (n x s : ℕ) → length xs ≡ n → s ≡ getD xs 1 0 → cond (eqb n 1) x s ≡ getD (xs ++ (x ∷ [])) 1 0
-second-kept [] n x s l e = rw (ne-eqb n 1 (omega arith)) e
-second-kept (y ∷ []) n x s l e = rw (eq-eqb n 1 (sym l))
-second-kept (y ∷ z ∷ zs) n x s l e = rw (ne-eqb n 1 (omega arith)) e
+-- the kept wires with that of input n
+abbrev pub keeping : ℕ → ℕ → Wires → Wires
+keeping n x w = record { first = cond (eqb n 0) x (w .first); second = cond (eqb n 1) x (w .second); third = cond (eqb n 2) x (w .third) }
+
+-- the wire at place k, after one wire more
+wire-kept : (xs : List ℕ) (n k x kept : ℕ) → length xs ≡ n → kept ≡ getD xs k 0 → cond (eqb n k) x kept ≡ getD (xs ++ (x ∷ [])) k 0
+wire-kept xs n k x kept l e = go (eqb n k) refl (ltb k n) refl
+  where
+    go : (here : Bool) → eqb n k ≡ here → (before : Bool) → ltb k n ≡ before → cond (eqb n k) x kept ≡ getD (xs ++ (x ∷ [])) k 0
+    go true q before r = rw (q, ← eqb-true n k q, ← l) (sym (snoc-last xs x))
+    go false q true r = rw q (e ∙ sym (snoc-below xs x k (omega (arith, ltb-true k n r))))
+    go false q false r =
+        let past : n < k = omega (arith, eqb-false n k q, ltb-false k n r) in
+        rw q (e ∙ List·getD-eq-default xs 0 (omega arith) ∙ sym (snoc-past xs x k (omega arith)))
 
 module _ (t : List ℕ) (es : List Entry) (all : List Word) where
-  pub walking-start : Walking t es all all 0 0 0
-  walking-start = record { done = []; whole = go (inputWires t es all); number = refl; first-is = refl; second-is = refl }
+  pub walking-start : Walking t es all all 0 noWires
+  walking-start = record { done = []; whole = go (inputWires t es all); number = refl; kept = record { first-is = refl; second-is = refl; third-is = refl } }
     where
       go : (r : Try (List ℕ)) → r ≡ andThen r (λ ys. yes ([] ++ ys))
       go (no e) = refl
       go (yes xs) = refl
 
-  module _ (left : List Word) (n first second : ℕ) (h : Walking t es left all n first second) where
-    pub walking-stop : (w : Word) (rest : List Word) → left ≡ w ∷ rest → find true t w es ≡ Nothing → no NoDriver ≡ inputWires t es all
-    walking-stop w rest e q = sym (h .whole ∙ ap (λ (r : Try (List ℕ)). andThen r (λ ys. yes (h .done ++ ys))) (sym (inputs-none t es left w rest e q)))
+  module _ (left : List Word) (n : ℕ) (w : Wires) (h : Walking t es left all n w) where
+    pub walking-stop : (v : Word) (rest : List Word) → left ≡ v ∷ rest → find true t v es ≡ Nothing → no NoDriver ≡ inputWires t es all
+    walking-stop v rest e q = sym (h .whole ∙ ap (λ (r : Try (List ℕ)). andThen r (λ ys. yes (h .done ++ ys))) (sym (inputs-none t es left v rest e q)))
 
-    pub walking-more : (w : Word) (rest : List Word) → left ≡ w ∷ rest → (x : ℕ) → find true t w es ≡ At x
-        → Walking t es rest all (n + 1) (cond (eqb n 0) x first) (cond (eqb n 1) x second)
-    walking-more w rest e x q = record {
+    pub walking-more : (v : Word) (rest : List Word) → left ≡ v ∷ rest → (x : ℕ) → find true t v es ≡ At x → Walking t es rest all (n + 1) (keeping n x w)
+    walking-more v rest e x q = record {
       done = h .done ++ (x ∷ []);
-      whole = h .whole ∙ ap (λ (r : Try (List ℕ)). andThen r (λ ys. yes (h .done ++ ys))) (inputs-more t es left w rest e x q) ∙ go (inputWires t es rest);
+      whole = h .whole ∙ ap (λ (r : Try (List ℕ)). andThen r (λ ys. yes (h .done ++ ys))) (inputs-more t es left v rest e x q) ∙ go (inputWires t es rest);
       number = length-append (h .done) (x ∷ []) ∙ ap (λ (m : ℕ). m + 1) (h .number);
-      first-is = first-kept (h .done) n x first (h .number) (h .first-is);
-      second-is = second-kept (h .done) n x second (h .number) (h .second-is);
+      kept = record {
+        first-is = wire-kept (h .done) n 0 x (w .first) (h .number) (h .kept .first-is);
+        second-is = wire-kept (h .done) n 1 x (w .second) (h .number) (h .kept .second-is);
+        third-is = wire-kept (h .done) n 2 x (w .third) (h .number) (h .kept .third-is);
+      };
     }
       where
         go : (r : Try (List ℕ)) → andThen (andThen r (λ xs. yes (x ∷ xs))) (λ ys. yes (h .done ++ ys)) ≡ andThen r (λ ys. yes ((h .done ++ (x ∷ [])) ++ ys))
@@ -138,14 +151,14 @@ module _ (t : List ℕ) (es : List Entry) (all : List Word) where
         none : inputWires t es left ≡ yes []
         none = unfold inputWires in rw e
 
-    pub walking-end : left ≡ [] → (Sound ≡ faultOf (inputWires t es all)) × FirstWires t es all first second
+    pub walking-end : left ≡ [] → (Sound ≡ faultOf (inputWires t es all)) × FirstWires t es all w
     walking-end e = (
       ap faultOf (sym (all-done e)),
       λ xs p.
           let q : h .done ≡ xs = yes-same (sym (all-done e) ∙ p) in
-          (h .first-is ∙ ap (λ (ys : List ℕ). getD ys 0 0) q, h .second-is ∙ ap (λ (ys : List ℕ). getD ys 1 0) q),
+          rw q at (h .kept),
     )
 
 -- without wires nothing is said of them
-pub no-wires : (t : List ℕ) (es : List Entry) (ws : List Word) (e : Refusal) (first second : ℕ) → no e ≡ inputWires t es ws → FirstWires t es ws first second
-no-wires t es ws e first second q xs p = absurd (no-yes (q ∙ p))
+pub no-wires : (t : List ℕ) (es : List Entry) (ws : List Word) (e : Refusal) (w : Wires) → no e ≡ inputWires t es ws → FirstWires t es ws w
+no-wires t es ws e w q xs p = absurd (no-yes (q ∙ p))

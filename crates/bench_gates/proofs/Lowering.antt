@@ -5,7 +5,7 @@ use mathlib.Core.Path.{_≡_, refl, sym, ap, _∙_}
 use mathlib.Core.Bool.{true}
 use mathlib.Core.List.{List, [], _∷_}
 use native.Mathlib.Omega.{arith}
-use lib.ListN.{length, getD}
+use lib.ListN.{length, take}
 use Rattle.circuit.specs.declared.refusals.Refusal.the-variants.{NoDriver, WrongCount, Unknown}
 use Rattle.circuit.specs.declared.refusals.Checked.{Checked}
 use Rattle.circuit.specs.declared.refusals.Checked.the-variants.{Sound, Refused}
@@ -21,7 +21,8 @@ use Rattle.bench_gates.specs.declared.operations.Operation.{Operation}
 use Rattle.bench_gates.specs.declared.operations.Operation.the-variants.{Buf, Not, Chain, Other}
 use Rattle.bench_gates.specs.declared.operations.Binary.{Binary}
 use Rattle.bench_gates.specs.Gates.{inputWires, onlyOne, inverter, lastCell, withNodes, chain, chained, lowerGate}
-use Rattle.bench_gates.specs.Walks.{Driven, FirstWires, chainWords}
+use Rattle.bench_gates.specs.declared.inputs.Wires.{Wires}
+use Rattle.bench_gates.specs.Walks.{Driven, AreFirst, FirstWires, chainWords}
 use Rattle.bench_gates.proofs.Drivers.{inputs-none, inputs-more, inputs-rest, inputs-length}
 use Rattle.bench_gates.proofs.Chaining.{chain-words}
 
@@ -80,6 +81,14 @@ module _ (p : Places) (out : Word) (h : Held) where
   unfolding lowerGate
   unknown t es ws inputs d = rw (d .are)
 
+-- at most three wires are all kept
+all-kept : (w : Wires) (xs : List ℕ) → AreFirst w xs → length xs ≤ 3 → take (length xs) (w .first ∷ w .second ∷ w .third ∷ []) ≡ xs
+all-kept w [] f l = refl
+all-kept w (x ∷ []) f l = rw (f .first-is)
+all-kept w (x ∷ y ∷ []) f l = rw (f .first-is, f .second-is)
+all-kept w (x ∷ y ∷ z ∷ []) f l = rw (f .first-is, f .second-is, f .third-is)
+all-kept w (x ∷ y ∷ z ∷ v ∷ vs) f l = absurd (omega arith)
+
 few : (p : Places) (out : Word) (o : Binary) (h : Held) (xs : List ℕ) → length xs < 2 → no WrongCount ≡ lowerGate p out (Chain o) xs h
 unfolding lowerGate chained chain
 few p out o h [] l = refl
@@ -97,16 +106,19 @@ module _ (t : List ℕ) (es : List Entry) (ws : List Word) (inputs : ℕ) (d : D
       let r = inputs-rest t es ws w rest e x q (d .wires) (d .are) in
       rw (d .are, r .all-are) (chain-words t es p out o rest 1 x ns (r .wires) (r .are))
 
-  -- a gate of two inputs is one cell
-  pub pair-made : (first second : ℕ) → FirstWires t es ws first second → inputs ≡ 2
-      → addNamed p out (lastCell out o first second) (withNodes ns es) ≡ andThen (inputWires t es ws) (λ xs. lowerGate p out (Chain o) xs (withNodes ns es))
-  unfolding lowerGate chained chain
-  pair-made first second w two =
-      let f = w (d .wires) (d .are) in
-      rw (d .are, f .0, f .1) (go (d .wires) (omega (arith, inputs-length t es ws (d .wires) (d .are), d .count-is)))
-    where
-      go : (xs : List ℕ) → length xs ≡ 2 → addNamed p out (lastCell out o (getD xs 0 0) (getD xs 1 0)) (withNodes ns es) ≡ lowerGate p out (Chain o) xs (withNodes ns es)
-      go [] l = absurd (omega arith)
-      go (x ∷ []) l = absurd (omega arith)
-      go (x ∷ y ∷ []) l = refl
-      go (x ∷ y ∷ z ∷ zs) l = absurd (omega arith)
+  -- a gate of at most three inputs is the chain of the kept wires
+  kept-made : (w : Wires) → FirstWires t es ws w → inputs ≤ 3
+      → chained p out o (take inputs (w .first ∷ w .second ∷ w .third ∷ [])) (withNodes ns es) ≡ andThen (inputWires t es ws) (λ xs. lowerGate p out (Chain o) xs (withNodes ns es))
+  unfolding lowerGate
+  kept-made w f most =
+      let l : length (d .wires) ≡ inputs = inputs-length t es ws (d .wires) (d .are) ∙ sym (d .count-is) in
+      rw (d .are, ← l) (ap (λ (xs : List ℕ). chained p out o xs (withNodes ns es)) (all-kept w (d .wires) (f (d .wires) (d .are)) (omega arith)))
+
+  module _ (w : Wires) (f : FirstWires t es ws w) where
+    pub pair-made : inputs ≡ 2 → addNamed p out (lastCell out o (w .first) (w .second)) (withNodes ns es) ≡ andThen (inputWires t es ws) (λ xs. lowerGate p out (Chain o) xs (withNodes ns es))
+    unfolding chained chain
+    pair-made two = rw two at (kept-made w f (omega arith))
+
+    pub triple-made : inputs ≡ 3 → chain p out o 1 (w .first) (w .second ∷ w .third ∷ []) (withNodes ns es) ≡ andThen (inputWires t es ws) (λ xs. lowerGate p out (Chain o) xs (withNodes ns es))
+    unfolding chained
+    triple-made three = rw three at (kept-made w f (omega arith))

@@ -17,6 +17,7 @@ use Rattle.reading.specs.Reading.{Places, placesIn, Held, find, driver, addNode
 use Rattle.reading.specs.Holding.{NodesKept}
 use Rattle.bench_invocations.specs.Walks.{argumentsFrom}
 use Rattle.bench_gates.specs.declared.inputs.Wired.{Wired}
+use Rattle.bench_gates.specs.declared.inputs.Wires.{Wires}
 use Rattle.bench_gates.specs.declared.inputs.Inputs.{Inputs}
 use Rattle.bench_gates.specs.declared.operations.Binary.{Binary}
 use Rattle.bench_gates.specs.declared.chains.Chained.{Chained}
@@ -50,13 +51,19 @@ pub record Driven (t : List ℕ) (es : List Entry) (ws : List Word) (count : ℕ
   pub are : inputWires t es ws ≡ yes wires
   pub count-is : count ≡ length ws
 
--- the wires of the first two inputs
-abbrev pub FirstWires : List ℕ → List Entry → List Word → ℕ → ℕ → Type 0
-FirstWires t es ws first second = (xs : List ℕ) → inputWires t es ws ≡ yes xs → (first ≡ getD xs 0 0) × (second ≡ getD xs 1 0)
+-- the first three of some wires, 0 where there is none
+pub record AreFirst (w : Wires) (xs : List ℕ) : Type 0 where
+  pub first-is : w .first ≡ getD xs 0 0
+  pub second-is : w .second ≡ getD xs 1 0
+  pub third-is : w .third ≡ getD xs 2 0
+
+-- the wires of the first three inputs
+abbrev pub FirstWires : List ℕ → List Entry → List Word → Wires → Type 0
+FirstWires t es ws w = (xs : List ℕ) → inputWires t es ws ≡ yes xs → AreFirst w xs
 
 pub record InputsAre (t : List ℕ) (es : List Entry) (ws : List Word) (r : Inputs) : Type 0 where
   pub fault-is : r .fault ≡ faultOf (inputWires t es ws)
-  pub firsts : FirstWires t es ws (r .first) (r .second)
+  pub firsts : FirstWires t es ws (r .wires)
 
 -- `chain`, the wires looked up as they come
 unfoldable pub chainWords : List ℕ → Places → Word → Binary → ℕ → ℕ → List Word → Held → Try Held

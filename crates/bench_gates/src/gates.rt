@@ -5,19 +5,21 @@ ghost use lib.ListN.{length};
 ghost use Rattle.laws.specs.Areas.{capacity};
 ghost use Rattle.circuit.specs.Refusals.{andThen};
 ghost use Rattle.names.specs.Chains.{entries, Table};
-ghost use Rattle.reading.specs.Reading.{placesIn, addName, addNamed};
+ghost use Rattle.reading.specs.Reading.{placesIn, addName};
 ghost use Rattle.reading.specs.Holding.{outcome, heldOf, Kept};
 ghost use Rattle.bench_gates.specs.declared.operations.Operation.the-variants.{Not, Chain};
-ghost use Rattle.bench_gates.specs.Gates.{inputWires, onlyOne, lastCell, lowerGate};
+ghost use Rattle.bench_gates.specs.Gates.{inputWires, onlyOne, lowerGate};
 ghost use Rattle.bench_invocations.specs.Walks.{argumentsFrom};
 ghost use Rattle.bench_gates.specs.Walks.{Driven, FirstWires, chainWords};
 use crate::chains::Chained;
 use crate::chains::bench_lut;
 use crate::chains::chain_steps;
+use crate::inputs::Wires;
 use crate::inputs::argument_wire;
 use crate::operations::Binary;
 use crate::operations::Operation;
-use crate::operations::bench_binary_truth_table;
+use crate::short_chains::chain_pair;
+use crate::short_chains::chain_triple;
 use circuit::records::Name;
 use circuit::refusals::Checked;
 use circuit::refusals::Refusal;
@@ -102,30 +104,6 @@ pub fn lower_inverter(
             add_named(text, start, len, node, counts, heads, nodes, names)
         }
     }
-}
-
-// A cell of two wires with the gate's name: the last of a chain, or all of it.
-pub fn chain_pair(
-    text: &[u8],
-    start: usize,
-    len: usize,
-    operation: Binary,
-    x: usize,
-    y: usize,
-    counts: Counts,
-    heads: &mut [usize; 256],
-    nodes: &mut [usize],
-    names: &mut [usize],
-) -> Step
-    requires { ⌜ Kept (now text) (now heads) (now nodes) (now names) counts ⌝ }
-    requires { ⌜ start + len ≤ length (now text) ⌝ }
-    ensures { λ r. ⌜ Kept (now (text .entry)) (now (heads .exit)) (now (nodes .exit)) (now (names .exit)) (r .counts) ⌝ }
-    ensures { λ r. ⌜ ((l : ℕ) → outcome (r .fault) (heldOf (now (nodes .exit)) (now (names .exit)) (r .counts)) ≡ addNamed (placesIn (length (now (nodes .entry))) (length (now (names .entry))) l) (record { start = start; len = len }) (lastCell (record { start = start; len = len }) operation x y) (heldOf (now (nodes .entry)) (now (names .entry)) counts)) ⌝ }
-{
-    let name = Name::Stretch { start, len };
-    let table = bench_binary_truth_table(operation);
-    let node = bench_lut(name, 2, table, x, y);
-    add_named(text, start, len, node, counts, heads, nodes, names)
 }
 
 // The last cell of a chain, its second wire looked up.
@@ -242,8 +220,7 @@ pub fn lower_chain(
     from: usize,
     end: usize,
     inputs: usize,
-    first: usize,
-    second: usize,
+    wires: Wires,
     counts: Counts,
     heads: &mut [usize; 256],
     nodes: &mut [usize],
@@ -252,7 +229,7 @@ pub fn lower_chain(
     requires { ⌜ Kept (now text) (now heads) (now nodes) (now names) counts ⌝ }
     requires { ⌜ (start + len ≤ length (now text)) × (end ≤ length (now text)) ⌝ }
     requires { ⌜ Driven (now text) (entries (now names) (counts .names)) (argumentsFrom (now text) from end) inputs ⌝ }
-    requires { ⌜ FirstWires (now text) (entries (now names) (counts .names)) (argumentsFrom (now text) from end) first second ⌝ }
+    requires { ⌜ FirstWires (now text) (entries (now names) (counts .names)) (argumentsFrom (now text) from end) wires ⌝ }
     ensures { λ r. ⌜ Kept (now (text .entry)) (now (heads .exit)) (now (nodes .exit)) (now (names .exit)) (r .counts) ⌝ }
     ensures { λ r. ⌜ ((l : ℕ) → outcome (r .fault) (heldOf (now (nodes .exit)) (now (names .exit)) (r .counts)) ≡ andThen (inputWires (now (text .entry)) (entries (now (names .entry)) (counts .names)) (argumentsFrom (now (text .entry)) from end)) (λ xs. lowerGate (placesIn (length (now (nodes .entry))) (length (now (names .entry))) l) (record { start = start; len = len }) (Chain operation) xs (heldOf (now (nodes .entry)) (now (names .entry)) counts))) ⌝ }
 {
@@ -269,8 +246,21 @@ pub fn lower_chain(
             start,
             len,
             operation,
-            first,
-            second,
+            wires.first,
+            wires.second,
+            counts,
+            heads,
+            nodes,
+            names,
+        );
+    }
+    if inputs == 3 {
+        return chain_triple(
+            text,
+            start,
+            len,
+            operation,
+            wires,
             counts,
             heads,
             nodes,
@@ -310,8 +300,7 @@ pub fn lower_bench_gate(
     from: usize,
     end: usize,
     inputs: usize,
-    first: usize,
-    second: usize,
+    wires: Wires,
     counts: Counts,
     heads: &mut [usize; 256],
     nodes: &mut [usize],
@@ -320,7 +309,7 @@ pub fn lower_bench_gate(
     requires { ⌜ Kept (now text) (now heads) (now nodes) (now names) counts ⌝ }
     requires { ⌜ (start + len ≤ length (now text)) × (end ≤ length (now text)) ⌝ }
     requires { ⌜ Driven (now text) (entries (now names) (counts .names)) (argumentsFrom (now text) from end) inputs ⌝ }
-    requires { ⌜ FirstWires (now text) (entries (now names) (counts .names)) (argumentsFrom (now text) from end) first second ⌝ }
+    requires { ⌜ FirstWires (now text) (entries (now names) (counts .names)) (argumentsFrom (now text) from end) wires ⌝ }
     ensures { λ r. ⌜ Kept (now (text .entry)) (now (heads .exit)) (now (nodes .exit)) (now (names .exit)) (r .counts) ⌝ }
     ensures { λ r. ⌜ ((l : ℕ) → outcome (r .fault) (heldOf (now (nodes .exit)) (now (names .exit)) (r .counts)) ≡ andThen (inputWires (now (text .entry)) (entries (now (names .entry)) (counts .names)) (argumentsFrom (now (text .entry)) from end)) (λ xs. lowerGate (placesIn (length (now (nodes .entry))) (length (now (names .entry))) l) (record { start = start; len = len }) operation xs (heldOf (now (nodes .entry)) (now (names .entry)) counts))) ⌝ }
 {
@@ -358,8 +347,7 @@ pub fn lower_bench_gate(
             from,
             end,
             inputs,
-            first,
-            second,
+            wires,
             counts,
             heads,
             nodes,

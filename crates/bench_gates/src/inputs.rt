@@ -38,11 +38,17 @@ pub fn argument_wire(
     Wired { wire, next: a.next }
 }
 
-// 5, or none, and the wires of the first two inputs (0 where there is none).
-pub struct Inputs {
-    pub fault: Checked,
+// The wires of the first three inputs (0 where there is none), from which a gate of two or three is made.
+pub struct Wires {
     pub first: usize,
     pub second: usize,
+    pub third: usize,
+}
+
+// 5, or none, and the wires of the first three inputs.
+pub struct Inputs {
+    pub fault: Checked,
+    pub wires: Wires,
 }
 
 // A wire that is kept if it is the one of input k, the n-th being at hand.
@@ -72,24 +78,32 @@ pub fn input_wires(
     let mut n = 0;
     let mut first = 0;
     let mut second = 0;
+    let mut third = 0;
     while at <= end {
         let a = argument_wire(text, at, end, heads, names, count);
         let wire = a.wire;
         let Found::At(x) = wire else {
             return Inputs {
                 fault: Checked::Refused(Refusal::NoDriver),
-                first: 0,
-                second: 0,
+                wires: Wires {
+                    first: 0,
+                    second: 0,
+                    third: 0,
+                },
             };
         };
         first = keep_wire(n, 0, x, first);
         second = keep_wire(n, 1, x, second);
+        third = keep_wire(n, 2, x, third);
         n += 1;
         at = a.next;
     }
     Inputs {
         fault: Checked::Sound,
-        first,
-        second,
+        wires: Wires {
+            first,
+            second,
+            third,
+        },
     }
 }

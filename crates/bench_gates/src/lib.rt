@@ -3,3 +3,4 @@ pub mod chains;
 pub mod gates;
 pub mod inputs;
 pub mod operations;
+pub mod short_chains;

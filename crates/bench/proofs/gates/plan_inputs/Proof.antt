@@ -39,7 +39,7 @@ operation-of-requires : tie.Need-operation-of-requires
 operation-of-requires c κs = c .before .before .before .before .before .before .before .pre .1 .1 .inside
 
 returns-3 : tie.Need-returns-3
-returns-3 c = plan-made (c .before .before .before .before .before .before .before .before .args .text .now) (entries (c .before .before .before .before .before .before .before .before .args .names .now) (c .before .before .before .before .before .before .before .before .args .count)) (c .before .before .before .before .before .before .before .before .args .i) (c .before .before .before .before .enum-told .given .1) (c .before .before .before .input-wires .result .fault) (c .before .before .before .input-wires .ensures .fault-is) (c .before .before .before .before .before .before .before .before .pre .1 .1) (c .before .enum-told2 .given .1) (c .operation-of .result) (c .operation-of .ensures) (record { start = c .before .before .before .before .before .before .before .before .args .start; len = c .before .before .before .before .before .before .before .before .args .len }) (c .before .before .before .before .before .before .before .before .pre .1 .0) (c .before .before .before .input-wires .result .first) (c .before .before .before .input-wires .result .second) (c .before .before .before .input-wires .ensures .firsts)
+returns-3 c = plan-made (c .before .before .before .before .before .before .before .before .before .args .text .now) (entries (c .before .before .before .before .before .before .before .before .before .args .names .now) (c .before .before .before .before .before .before .before .before .before .args .count)) (c .before .before .before .before .before .before .before .before .before .args .i) (c .before .before .before .before .before .enum-told .given .1) (c .before .before .before .before .input-wires .result .fault) (c .before .before .before .before .input-wires .ensures .fault-is) (c .before .before .before .before .before .before .before .before .before .pre .1 .1) (c .before .before .enum-told2 .given .1) (c .before .operation-of .result) (c .before .operation-of .ensures) (record { start = c .before .before .before .before .before .before .before .before .before .args .start; len = c .before .before .before .before .before .before .before .before .before .args .len }) (c .before .before .before .before .before .before .before .before .before .pre .1 .0) (c .before .before .before .before .input-wires .result .wires) (c .before .before .before .before .input-wires .ensures .firsts)
 
 pub plan-inputs-spec : {M : Type 1} → statement M
 plan-inputs-spec =

@@ -1,4 +1,4 @@
--- `input_wires`: the wires so far, of which the first two are kept.
+-- `input_wires`: the wires so far, of which the first three are kept.
 -- Assumes nothing.
 use Prim.Native.Nat.{ℕ, _+_, _-_, _≤_, _<_}
 use mathlib.Core.Path.{_≡_, sym, ap, _∙_}
@@ -8,17 +8,17 @@ use Rattle.bench_invocations.specs.Walks.{argumentsFrom}
 use Rattle.bench_invocations.proofs.Parts.{arguments-over}
 use Rattle.bench_gates.specs.Gates.{inputWires}
 use Rattle.bench_gates.specs.Walks.{faultOf}
-use Rattle.bench_gates.proofs.Drivers.{Walking, walking-start, walking-stop, walking-more, walking-end, no-wires}
+use Rattle.bench_gates.proofs.Drivers.{Walking, walking-start, walking-stop, walking-more, walking-end, noWires, no-wires}
 use borrow.Author.Needs.{needs}
 use Rattle.bench_gates.proofs.inputs.input_wires.Statement.{statement}
 use Rattle.bench_gates.proofs.inputs.input_wires.Tie as tie
 
 abbrev Inv-loop : tie.InvT-loop
-Inv-loop text from end heads names count at₀ n₀ first₀ second₀ at n first second =
-    (n ≤ at) × Walking text (entries names count) (argumentsFrom text at end) (argumentsFrom text from end) n first second
+Inv-loop text from end heads names count at₀ n₀ first₀ second₀ third₀ at n first second third =
+    (n ≤ at) × Walking text (entries names count) (argumentsFrom text at end) (argumentsFrom text from end) n (record { first = first; second = second; third = third })
 
 abbrev μ-loop : tie.MeasureT-loop
-μ-loop text from end heads names count at₀ n₀ first₀ second₀ at n first second = end + 1 - at
+μ-loop text from end heads names count at₀ n₀ first₀ second₀ third₀ at n first second third = end + 1 - at
 
 loop-holds : tie.Need-loop-holds Inv-loop μ-loop
 loop-holds c = (omega arith, walking-start _ _ _)
@@ -34,8 +34,8 @@ enum-told c = search needs
 
 returns : tie.Need-returns Inv-loop μ-loop
 returns c =
-    let q = walking-stop (c .before .before .before .before .before .before .before .args .text .now) (entries (c .before .before .before .before .before .before .before .args .names .now) (c .before .before .before .before .before .before .before .args .count)) (argumentsFrom (c .before .before .before .before .before .before .before .args .text .now) (c .before .before .before .before .before .before .before .args .from) (c .before .before .before .before .before .before .before .args .end)) (argumentsFrom (c .before .before .before .before .before .before .before .args .text .now) (c .before .before .before .before .loop .at) (c .before .before .before .before .before .before .before .args .end)) (c .before .before .before .before .loop .n) (c .before .before .before .before .loop .first) (c .before .before .before .before .loop .second) (c .before .before .before .before .loop .inv .1) (c .before .before .argument-wire .ensures .word) _ (c .before .before .argument-wire .ensures .first) (sym (c .before .before .argument-wire .ensures .wire-is) ∙ c .enum-told .given .1) in
-    record { fault-is = ap faultOf q; firsts = no-wires (c .before .before .before .before .before .before .before .args .text .now) (entries (c .before .before .before .before .before .before .before .args .names .now) (c .before .before .before .before .before .before .before .args .count)) (argumentsFrom (c .before .before .before .before .before .before .before .args .text .now) (c .before .before .before .before .before .before .before .args .from) (c .before .before .before .before .before .before .before .args .end)) _ 0 0 q }
+    let q = walking-stop (c .before .before .before .before .before .before .before .args .text .now) (entries (c .before .before .before .before .before .before .before .args .names .now) (c .before .before .before .before .before .before .before .args .count)) (argumentsFrom (c .before .before .before .before .before .before .before .args .text .now) (c .before .before .before .before .before .before .before .args .from) (c .before .before .before .before .before .before .before .args .end)) (argumentsFrom (c .before .before .before .before .before .before .before .args .text .now) (c .before .before .before .before .loop .at) (c .before .before .before .before .before .before .before .args .end)) (c .before .before .before .before .loop .n) (record { first = c .before .before .before .before .loop .first; second = c .before .before .before .before .loop .second; third = c .before .before .before .before .loop .third }) (c .before .before .before .before .loop .inv .1) (c .before .before .argument-wire .ensures .word) _ (c .before .before .argument-wire .ensures .first) (sym (c .before .before .argument-wire .ensures .wire-is) ∙ c .enum-told .given .1) in
+    record { fault-is = ap faultOf q; firsts = no-wires (c .before .before .before .before .before .before .before .args .text .now) (entries (c .before .before .before .before .before .before .before .args .names .now) (c .before .before .before .before .before .before .before .args .count)) (argumentsFrom (c .before .before .before .before .before .before .before .args .text .now) (c .before .before .before .before .before .before .before .args .from) (c .before .before .before .before .before .before .before .args .end)) _ noWires q }
 
 keep-wire-requires : tie.Need-keep-wire-requires Inv-loop μ-loop
 keep-wire-requires c κs = tt
@@ -43,18 +43,21 @@ keep-wire-requires c κs = tt
 keep-wire-requires-2 : tie.Need-keep-wire-requires-2 Inv-loop μ-loop
 keep-wire-requires-2 c κs = tt
 
+keep-wire-requires-3 : tie.Need-keep-wire-requires-3 Inv-loop μ-loop
+keep-wire-requires-3 c κs = tt
+
 add-n : tie.Need-add-n Inv-loop μ-loop
-add-n c = omega (arith, c .before .before .before .before .before .argument-wire .ensures .on, c .before .before .before .before .before .argument-wire .ensures .reach, c .before .before .before .before .before .before .before .loop .inv .0)
+add-n c = omega (arith, c .before .before .before .before .before .before .argument-wire .ensures .on, c .before .before .before .before .before .before .argument-wire .ensures .reach, c .before .before .before .before .before .before .before .before .loop .inv .0)
 
 loop-less : tie.Need-loop-less Inv-loop μ-loop
-loop-less c = omega (arith, c .before .before .before .before .before .argument-wire .ensures .on, c .before .before .before .before .before .argument-wire .ensures .reach)
+loop-less c = omega (arith, c .before .before .before .before .before .before .argument-wire .ensures .on, c .before .before .before .before .before .before .argument-wire .ensures .reach)
 
 loop-again : tie.Need-loop-again Inv-loop μ-loop
-loop-again c = (omega (arith, c .before .before .before .before .before .argument-wire .ensures .on, c .before .before .before .before .before .before .before .loop .inv .0), rw (c .before .keep-wire .ensures, c .keep-wire2 .ensures) (walking-more (c .before .before .before .before .before .before .before .before .before .before .args .text .now) (entries (c .before .before .before .before .before .before .before .before .before .before .args .names .now) (c .before .before .before .before .before .before .before .before .before .before .args .count)) (argumentsFrom (c .before .before .before .before .before .before .before .before .before .before .args .text .now) (c .before .before .before .before .before .before .before .before .before .before .args .from) (c .before .before .before .before .before .before .before .before .before .before .args .end)) (argumentsFrom (c .before .before .before .before .before .before .before .before .before .before .args .text .now) (c .before .before .before .before .before .before .before .loop .at) (c .before .before .before .before .before .before .before .before .before .before .args .end)) (c .before .before .before .before .before .before .before .loop .n) (c .before .before .before .before .before .before .before .loop .first) (c .before .before .before .before .before .before .before .loop .second) (c .before .before .before .before .before .before .before .loop .inv .1) (c .before .before .before .before .before .argument-wire .ensures .word) _ (c .before .before .before .before .before .argument-wire .ensures .first) _ (sym (c .before .before .before .before .before .argument-wire .ensures .wire-is) ∙ c .before .before .before .wire .given .1)))
+loop-again c = (omega (arith, c .before .before .before .before .before .before .argument-wire .ensures .on, c .before .before .before .before .before .before .before .before .loop .inv .0), rw (c .before .before .keep-wire .ensures, c .before .keep-wire2 .ensures, c .keep-wire3 .ensures) (walking-more (c .before .before .before .before .before .before .before .before .before .before .before .args .text .now) (entries (c .before .before .before .before .before .before .before .before .before .before .before .args .names .now) (c .before .before .before .before .before .before .before .before .before .before .before .args .count)) (argumentsFrom (c .before .before .before .before .before .before .before .before .before .before .before .args .text .now) (c .before .before .before .before .before .before .before .before .before .before .before .args .from) (c .before .before .before .before .before .before .before .before .before .before .before .args .end)) (argumentsFrom (c .before .before .before .before .before .before .before .before .before .before .before .args .text .now) (c .before .before .before .before .before .before .before .before .loop .at) (c .before .before .before .before .before .before .before .before .before .before .before .args .end)) (c .before .before .before .before .before .before .before .before .loop .n) (record { first = c .before .before .before .before .before .before .before .before .loop .first; second = c .before .before .before .before .before .before .before .before .loop .second; third = c .before .before .before .before .before .before .before .before .loop .third }) (c .before .before .before .before .before .before .before .before .loop .inv .1) (c .before .before .before .before .before .before .argument-wire .ensures .word) _ (c .before .before .before .before .before .before .argument-wire .ensures .first) _ (sym (c .before .before .before .before .before .before .argument-wire .ensures .wire-is) ∙ c .before .before .before .before .wire .given .1)))
 
 returns-2 : tie.Need-returns-2 Inv-loop μ-loop
 returns-2 c =
-    let e = walking-end (c .before .before .before .before .args .text .now) (entries (c .before .before .before .before .args .names .now) (c .before .before .before .before .args .count)) (argumentsFrom (c .before .before .before .before .args .text .now) (c .before .before .before .before .args .from) (c .before .before .before .before .args .end)) (argumentsFrom (c .before .before .before .before .args .text .now) (c .before .loop .at) (c .before .before .before .before .args .end)) (c .before .loop .n) (c .before .loop .first) (c .before .loop .second) (c .before .loop .inv .1) (arguments-over (c .before .before .before .before .args .text .now) (c .before .loop .at) (c .before .before .before .before .args .end) (c .loop-test .left)) in
+    let e = walking-end (c .before .before .before .before .args .text .now) (entries (c .before .before .before .before .args .names .now) (c .before .before .before .before .args .count)) (argumentsFrom (c .before .before .before .before .args .text .now) (c .before .before .before .before .args .from) (c .before .before .before .before .args .end)) (argumentsFrom (c .before .before .before .before .args .text .now) (c .before .loop .at) (c .before .before .before .before .args .end)) (c .before .loop .n) (record { first = c .before .loop .first; second = c .before .loop .second; third = c .before .loop .third }) (c .before .loop .inv .1) (arguments-over (c .before .before .before .before .args .text .now) (c .before .loop .at) (c .before .before .before .before .args .end) (c .loop-test .left)) in
     record { fault-is = e .0; firsts = e .1 }
 
 pub input-wires-spec : {M : Type 1} → statement M
@@ -70,6 +73,7 @@ input-wires-spec =
     returns
     keep-wire-requires
     keep-wire-requires-2
+    keep-wire-requires-3
     add-n
     loop-less
     loop-again

@@ -24,8 +24,8 @@ use Rattle.bench_gates.specs.Operations.{truthTable}
 use Rattle.bench_gates.specs.Gates.{cell, outputName}
 use Rattle.bench_gates.proofs.Chaining.{cell-is, same-places}
 use borrow.Author.Needs.{needs}
-use Rattle.bench_gates.proofs.gates.chain_pair.Statement.{statement}
-use Rattle.bench_gates.proofs.gates.chain_pair.Tie as tie
+use Rattle.bench_gates.proofs.short_chains.chain_pair.Statement.{statement}
+use Rattle.bench_gates.proofs.short_chains.chain_pair.Tie as tie
 
 bench-binary-truth-table-requires : tie.Need-bench-binary-truth-table-requires
 bench-binary-truth-table-requires c κs = search needs
