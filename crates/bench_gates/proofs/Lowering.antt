@@ -5,7 +5,8 @@ use mathlib.Core.Path.{_≡_, refl, sym, ap, _∙_}
 use mathlib.Core.Bool.{true}
 use mathlib.Core.List.{List, [], _∷_}
 use native.Mathlib.Omega.{arith}
-use lib.ListN.{length, take}
+use lib.ListN.{length, getD, take}
+use borrow.Author.Tests.{ne-eqb}
 use Rattle.circuit.specs.declared.refusals.Refusal.the-variants.{NoDriver, WrongCount, Unknown}
 use Rattle.circuit.specs.declared.refusals.Checked.{Checked}
 use Rattle.circuit.specs.declared.refusals.Checked.the-variants.{Sound, Refused}
@@ -22,31 +23,22 @@ use Rattle.bench_gates.specs.declared.operations.Operation.the-variants.
 use Rattle.bench_gates.specs.declared.operations.Binary.{Binary}
 use Rattle.bench_gates.specs.Gates.{inputWires, onlyOne, inverter, lastCell, withNodes, chain, chained, lowerGate}
 use Rattle.bench_gates.specs.declared.inputs.Wires.{Wires}
-use Rattle.bench_gates.specs.Walks.{Driven, AreFirst, FirstWires, chainWords}
+use Rattle.bench_gates.specs.Walks.{Driven, AreFirst, FirstWires, ifOne, chainWords}
 use Rattle.bench_gates.proofs.Drivers.{inputs-none, inputs-more, inputs-rest, inputs-length}
 use Rattle.bench_gates.proofs.Chaining.{chain-words}
 
-not-one : {A B : Type 0} (xs : List A) (f : A → Try B) → (length xs ≡ 1 → ⊥) → no WrongCount ≡ andThen (onlyOne xs) f
-not-one [] f ne = refl
-not-one (x ∷ []) f ne = absurd (ne refl)
-not-one (x ∷ y ∷ ys) f ne = refl
-
+-- what one input gives, by its kept wire
 module _ (t : List ℕ) (es : List Entry) (ws : List Word) (inputs : ℕ) (d : Driven t es ws inputs) where
-  count : length (d .wires) ≡ inputs
-  count = inputs-length t es ws (d .wires) (d .are) ∙ sym (d .count-is)
+  pub one-kept : {B : Type 0} (f : ℕ → Try B) (w : Wires) → FirstWires t es ws w → ifOne inputs (f (w .first)) ≡ andThen (inputWires t es ws) (λ xs. andThen (onlyOne xs) f)
+  one-kept f w k = rw (d .are, ← count) (go (d .wires) (k (d .wires) (d .are) .first-is))
+    where
+      count : length (d .wires) ≡ inputs
+      count = inputs-length t es ws (d .wires) (d .are) ∙ sym (d .count-is)
 
-  module _ {B : Type 0} (f : ℕ → Try B) where
-    pub wrong-count : (inputs ≡ 1 → ⊥) → no WrongCount ≡ andThen (inputWires t es ws) (λ xs. andThen (onlyOne xs) f)
-    wrong-count ne = rw (d .are) (not-one (d .wires) f (λ q. ne (sym count ∙ q)))
-
-    pub one-input : (w : Word) (rest : List Word) → ws ≡ w ∷ rest → inputs ≡ 1 → (x : ℕ) → find true t w es ≡ At x → f x ≡ andThen (inputWires t es ws) (λ xs. andThen (onlyOne xs) f)
-    one-input w rest e one x q =
-        let r = inputs-rest t es ws w rest e x q (d .wires) (d .are) in
-        rw (d .are, r .all-are) (go (r .wires) (omega (arith, ap length (r .all-are), count)))
-      where
-        go : (xs : List ℕ) → length xs ≡ 0 → f x ≡ andThen (onlyOne (x ∷ xs)) f
-        go [] z = refl
-        go (y ∷ ys) z = absurd (omega arith)
+      go : (xs : List ℕ) → w .first ≡ getD xs 0 0 → ifOne (length xs) (f (w .first)) ≡ andThen (onlyOne xs) f
+      go [] e = refl
+      go (x ∷ []) e = ap f e
+      go (x ∷ y ∷ ys) e = rw (ne-eqb (length (x ∷ y ∷ ys)) 1 (λ q. absurd (omega (arith, q))))
 
 pub no-driver : {B : Type 0} (t : List ℕ) (es : List Entry) (ws : List Word) (w : Word) (rest : List Word) (f : List ℕ → Try B) → ws ≡ w ∷ rest → find true t w es ≡ Nothing → no NoDriver ≡ andThen (inputWires t es ws) f
 no-driver t es ws w rest f e q = rw (← inputs-none t es ws w rest e q)

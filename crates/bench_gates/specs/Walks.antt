@@ -2,8 +2,9 @@
 -- Assumes nothing.
 use Prim.Native.Nat.{ℕ, suc, _+_, _≤_, _<_}
 use mathlib.Core.Path.{_≡_}
-use mathlib.Core.Bool.{true}
+use mathlib.Core.Bool.{true, cond}
 use mathlib.Core.List.{List, [], _∷_}
+use lib.Dec.{eqb}
 use lib.ListN.{length, getD}
 use Rattle.circuit.specs.declared.refusals.Refusal.the-variants.{WrongCount}
 use Rattle.circuit.specs.declared.refusals.Checked.{Checked}
@@ -64,6 +65,10 @@ FirstWires t es ws w = (xs : List ℕ) → inputWires t es ws ≡ yes xs → Are
 pub record InputsAre (t : List ℕ) (es : List Entry) (ws : List Word) (r : Inputs) : Type 0 where
   pub fault-is : r .fault ≡ faultOf (inputWires t es ws)
   pub firsts : FirstWires t es ws (r .wires)
+
+-- what is tried if there is one input, else 6
+abbrev pub ifOne : {A : Type 0} → ℕ → Try A → Try A
+ifOne inputs r = cond (eqb inputs 1) r (no WrongCount)
 
 -- `chain`, the wires looked up as they come
 unfoldable pub chainWords : List ℕ → Places → Word → Binary → ℕ → ℕ → List Word → Held → Try Held

@@ -5,12 +5,12 @@ ghost use lib.ListN.{length};
 ghost use Rattle.laws.specs.Areas.{capacity};
 ghost use Rattle.circuit.specs.Refusals.{andThen};
 ghost use Rattle.names.specs.Chains.{entries, Table};
-ghost use Rattle.reading.specs.Reading.{placesIn, addName};
+ghost use Rattle.reading.specs.Reading.{placesIn, addName, addNamed};
 ghost use Rattle.reading.specs.Holding.{outcome, heldOf, Kept};
-ghost use Rattle.bench_gates.specs.declared.operations.Operation.the-variants.{Not, Chain};
-ghost use Rattle.bench_gates.specs.Gates.{inputWires, onlyOne, lowerGate};
+ghost use Rattle.bench_gates.specs.declared.operations.Operation.the-variants.{Chain};
+ghost use Rattle.bench_gates.specs.Gates.{inputWires, inverter, lowerGate};
 ghost use Rattle.bench_invocations.specs.Walks.{argumentsFrom};
-ghost use Rattle.bench_gates.specs.Walks.{Driven, FirstWires, chainWords};
+ghost use Rattle.bench_gates.specs.Walks.{Driven, FirstWires, ifOne, chainWords};
 use crate::chains::Chained;
 use crate::chains::bench_lut;
 use crate::chains::chain_steps;
@@ -35,18 +35,16 @@ pub fn lower_buffer(
     text: &[u8],
     start: usize,
     len: usize,
-    from: usize,
-    end: usize,
     inputs: usize,
+    wire: usize,
     count: usize,
     heads: &mut [usize; 256],
     names: &mut [usize],
 ) -> Counted
     requires { ⌜ Table (now text) (now heads) (now names) count ⌝ }
-    requires { ⌜ (start + len ≤ length (now text)) × (end ≤ length (now text)) ⌝ }
-    requires { ⌜ Driven (now text) (entries (now names) count) (argumentsFrom (now text) from end) inputs ⌝ }
+    requires { ⌜ start + len ≤ length (now text) ⌝ }
     ensures { λ r. ⌜ Table (now (text .entry)) (now (heads .exit)) (now (names .exit)) (r .count) ⌝ }
-    ensures { λ r. ⌜ outcome (r .fault) (entries (now (names .exit)) (r .count)) ≡ andThen (inputWires (now (text .entry)) (entries (now (names .entry)) count) (argumentsFrom (now (text .entry)) from end)) (λ xs. andThen (onlyOne xs) (λ x. addName (capacity 4 (length (now (names .entry)))) (record { start = start; len = len }) x (entries (now (names .entry)) count))) ⌝ }
+    ensures { λ r. ⌜ outcome (r .fault) (entries (now (names .exit)) (r .count)) ≡ ifOne inputs (addName (capacity 4 (length (now (names .entry)))) (record { start = start; len = len }) wire (entries (now (names .entry)) count)) ⌝ }
 {
     if inputs != 1 {
         return Counted {
@@ -54,15 +52,7 @@ pub fn lower_buffer(
             count,
         };
     }
-    let a = argument_wire(text, from, end, heads, names, count);
-    let wire = a.wire;
-    match wire {
-        Found::Nothing => Counted {
-            fault: Checked::Refused(Refusal::NoDriver),
-            count,
-        },
-        Found::At(x) => add_name(text, start, len, x, count, heads, names),
-    }
+    add_name(text, start, len, wire, count, heads, names)
 }
 
 // NOT, INV: a cell of one wire.
@@ -70,40 +60,27 @@ pub fn lower_inverter(
     text: &[u8],
     start: usize,
     len: usize,
-    from: usize,
-    end: usize,
     inputs: usize,
+    wire: usize,
     counts: Counts,
     heads: &mut [usize; 256],
     nodes: &mut [usize],
     names: &mut [usize],
 ) -> Step
     requires { ⌜ Kept (now text) (now heads) (now nodes) (now names) counts ⌝ }
-    requires { ⌜ (start + len ≤ length (now text)) × (end ≤ length (now text)) ⌝ }
-    requires { ⌜ Driven (now text) (entries (now names) (counts .names)) (argumentsFrom (now text) from end) inputs ⌝ }
+    requires { ⌜ start + len ≤ length (now text) ⌝ }
     ensures { λ r. ⌜ Kept (now (text .entry)) (now (heads .exit)) (now (nodes .exit)) (now (names .exit)) (r .counts) ⌝ }
-    ensures { λ r. ⌜ ((l : ℕ) → outcome (r .fault) (heldOf (now (nodes .exit)) (now (names .exit)) (r .counts)) ≡ andThen (inputWires (now (text .entry)) (entries (now (names .entry)) (counts .names)) (argumentsFrom (now (text .entry)) from end)) (λ xs. lowerGate (placesIn (length (now (nodes .entry))) (length (now (names .entry))) l) (record { start = start; len = len }) Not xs (heldOf (now (nodes .entry)) (now (names .entry)) counts))) ⌝ }
+    ensures { λ r. ⌜ ((l : ℕ) → outcome (r .fault) (heldOf (now (nodes .exit)) (now (names .exit)) (r .counts)) ≡ ifOne inputs (addNamed (placesIn (length (now (nodes .entry))) (length (now (names .entry))) l) (record { start = start; len = len }) (inverter (record { start = start; len = len }) wire) (heldOf (now (nodes .entry)) (now (names .entry)) counts))) ⌝ }
 {
-    let m = counts.names;
     if inputs != 1 {
         return Step {
             fault: Checked::Refused(Refusal::WrongCount),
             counts,
         };
     }
-    let a = argument_wire(text, from, end, heads, names, m);
-    let wire = a.wire;
-    match wire {
-        Found::Nothing => Step {
-            fault: Checked::Refused(Refusal::NoDriver),
-            counts,
-        },
-        Found::At(x) => {
-            let name = Name::Stretch { start, len };
-            let node = bench_lut(name, 1, 1, x, 0);
-            add_named(text, start, len, node, counts, heads, nodes, names)
-        }
-    }
+    let name = Name::Stretch { start, len };
+    let node = bench_lut(name, 1, 1, wire, 0);
+    add_named(text, start, len, node, counts, heads, nodes, names)
 }
 
 // The last cell of a chain, its second wire looked up.
@@ -317,7 +294,7 @@ pub fn lower_bench_gate(
     let m = counts.names;
     match operation {
         Operation::Buf => {
-            let c = lower_buffer(text, start, len, from, end, inputs, m, heads, names);
+            let c = lower_buffer(text, start, len, inputs, wires.first, m, heads, names);
             let fault = c.fault;
             Step {
                 fault,
@@ -331,9 +308,8 @@ pub fn lower_bench_gate(
             text,
             start,
             len,
-            from,
-            end,
             inputs,
+            wires.first,
             counts,
             heads,
             nodes,

@@ -1,77 +1,38 @@
-use mathlib.Core.List.{List}
-use Prim.Native.Nat.{ℕ, suc, _+_, _-_, _≤_, _<_}
-use mathlib.Core.Path.{_≡_, refl, sym, ap, _∙_}
-use native.Mathlib.Omega.{arith}
+-- `lower_inverter`: the cell and its name, if there is one input.
+-- Assumes nothing.
+use mathlib.Core.Path.{_≡_, ap, _∙_}
 use lib.ListN.{length}
-use denote.Ref.{now}
-use Rattle.circuit.specs.declared.refusals.Checked.{Checked}
-use Rattle.circuit.specs.declared.refusals.Checked.the-variants.{Sound, Refused}
+use borrow.Author.Tests.{eq-eqb, ne-eqb}
 use Rattle.circuit.specs.declared.records.BoolNode.{BoolNode}
-use Rattle.circuit.specs.Refusals.{checkThen}
-use Rattle.circuit.specs.Records.{nodesOf}
-use Rattle.text.specs.declared.words.Word.{Word}
-use Rattle.names.specs.Chains.{entries}
-use Rattle.reading.specs.Reading.{placesIn}
-use Rattle.reading.specs.Holding.{outcome, heldOf}
-use Rattle.bench_invocations.specs.Walks.{argumentsFrom}
-use Rattle.bench_invocations.proofs.Parts.{arguments-some}
-use Rattle.bench_gates.specs.Gates.{withNodes}
-use Rattle.bench_gates.specs.Walks.{chainWords}
-use Rattle.circuit.specs.Refusals.{andThen}
-use Rattle.reading.specs.Reading.{addNamed}
-use Rattle.bench_gates.specs.declared.operations.Operation.the-variants.{Not}
-use Rattle.bench_gates.specs.Gates.{inputWires, onlyOne, inverter, lowerGate}
+use Rattle.reading.specs.Reading.{placesIn, addNamed}
+use Rattle.reading.specs.Holding.{heldOf}
 use Rattle.bench_gates.proofs.Chaining.{cell-is, same-places}
-use Rattle.bench_gates.proofs.Lowering.{wrong-count, one-input, no-driver, inverted}
 use borrow.Author.Needs.{needs}
 use Rattle.bench_gates.proofs.gates.lower_inverter.Statement.{statement}
 use Rattle.bench_gates.proofs.gates.lower_inverter.Tie as tie
 
 returns : tie.Need-returns
-returns c = (c .before .before .before .before .pre .0, λ l. wrong-count (c .before .before .before .before .args .text .now) (entries (c .before .before .before .before .args .names .now) (c .before .before .before .before .args .counts .names)) (argumentsFrom (c .before .before .before .before .args .text .now) (c .before .before .before .before .args .from) (c .before .before .before .before .args .end)) (c .before .before .before .before .args .inputs) (c .before .before .before .before .pre .1 .1) (λ x. addNamed (placesIn (length (c .before .before .before .before .args .nodes .now)) (length (c .before .before .before .before .args .names .now)) l) (record { start = c .before .before .before .before .args .start; len = c .before .before .before .before .args .len }) (inverter (record { start = c .before .before .before .before .args .start; len = c .before .before .before .before .args .len }) x) (heldOf (c .before .before .before .before .args .nodes .now) (c .before .before .before .before .args .names .now) (c .before .before .before .before .args .counts))) (c .if1 .taken) ∙ inverted (placesIn (length (c .before .before .before .before .args .nodes .now)) (length (c .before .before .before .before .args .names .now)) l) (record { start = c .before .before .before .before .args .start; len = c .before .before .before .before .args .len }) (heldOf (c .before .before .before .before .args .nodes .now) (c .before .before .before .before .args .names .now) (c .before .before .before .before .args .counts)) (inputWires (c .before .before .before .before .args .text .now) (entries (c .before .before .before .before .args .names .now) (c .before .before .before .before .args .counts .names)) (argumentsFrom (c .before .before .before .before .args .text .now) (c .before .before .before .before .args .from) (c .before .before .before .before .args .end))))
-
-argument-wire-requires : tie.Need-argument-wire-requires
-argument-wire-requires c κs = (c .before .before .before .before .before .before .pre .0 .table, (arguments-some (c .before .before .before .before .before .before .args .text .now) (c .before .before .before .before .before .before .args .from) (c .before .before .before .before .before .before .args .end) (omega (arith, c .before .before .before .before .before .before .pre .1 .1 .count-is, c .before .before .if1 .left)), c .before .before .before .before .before .before .pre .1 .0 .1))
-
-enum-told : tie.Need-enum-told
-enum-told c = search needs
-
-enum-known-wire : tie.Need-enum-known-wire
-enum-known-wire c = search needs
+returns c = (c .before .before .before .before .pre .0, λ l. rw (ne-eqb _ _ (c .if1 .taken)))
 
 bench-lut-requires : tie.Need-bench-lut-requires
 bench-lut-requires c κs = search needs
 
 add-named-requires : tie.Need-add-named-requires
-add-named-requires c κs = (c .before .before .before .before .before .before .before .before .before .before .before .before .before .before .pre .0, (c .before .before .before .before .before .before .before .before .before .before .before .before .before .before .pre .1 .0 .0, c .before .before .before .bench-lut .ensures .1))
+add-named-requires c κs = search needs
 
 same-length : tie.Need-same-length
 same-length c = search needs
 
-returns-2 : tie.Need-returns-2
-returns-2 c = (c .before .before .before .before .before .before .before .before .before .pre .0, λ l. no-driver (c .before .before .before .before .before .before .before .before .before .args .text .now) (entries (c .before .before .before .before .before .before .before .before .before .args .names .now) (c .before .before .before .before .before .before .before .before .before .args .counts .names)) (argumentsFrom (c .before .before .before .before .before .before .before .before .before .args .text .now) (c .before .before .before .before .before .before .before .before .before .args .from) (c .before .before .before .before .before .before .before .before .before .args .end)) (c .before .before .argument-wire .ensures .word) _ (λ xs. lowerGate (placesIn (length (c .before .before .before .before .before .before .before .before .before .args .nodes .now)) (length (c .before .before .before .before .before .before .before .before .before .args .names .now)) l) (record { start = c .before .before .before .before .before .before .before .before .before .args .start; len = c .before .before .before .before .before .before .before .before .before .args .len }) Not xs (heldOf (c .before .before .before .before .before .before .before .before .before .args .nodes .now) (c .before .before .before .before .before .before .before .before .before .args .names .now) (c .before .before .before .before .before .before .before .before .before .args .counts))) (c .before .before .argument-wire .ensures .first) (sym (c .before .before .argument-wire .ensures .wire-is) ∙ c .enum-told .given .1))
-
 same-length-2 : tie.Need-same-length-2
 same-length-2 c = search needs
 
-same-length-3 : tie.Need-same-length-3
-same-length-3 c = search needs
-
-returns-3 : tie.Need-returns-3
-returns-3 c = (c .before .before .before .before .add-named .ensures .0, λ l. c .before .before .before .before .add-named .ensures .1 ∙ same-places (length (c .before .before .before .before .before .before .before .before .before .before .before .before .before .before .before .before .before .before .before .args .nodes .now)) (length (c .before .before .before .before .before .before .before .before .before .before .before .before .before .before .before .before .before .before .before .args .names .now)) l (record { start = c .before .before .before .before .before .before .before .before .before .before .before .before .before .before .before .before .before .before .before .args .start; len = c .before .before .before .before .before .before .before .before .before .before .before .before .before .before .before .before .before .before .before .args .len }) (c .before .before .before .before .before .before .before .before .bench-lut .result) (heldOf (c .before .before .before .before .before .before .before .before .before .before .before .before .before .before .before .before .before .before .before .args .nodes .now) (c .before .before .before .before .before .before .before .before .before .before .before .before .before .before .before .before .before .before .before .args .names .now) (c .before .before .before .before .before .before .before .before .before .before .before .before .before .before .before .before .before .before .before .args .counts)) ∙ ap (λ (b : BoolNode). addNamed (placesIn (length (c .before .before .before .before .before .before .before .before .before .before .before .before .before .before .before .before .before .before .before .args .nodes .now)) (length (c .before .before .before .before .before .before .before .before .before .before .before .before .before .before .before .before .before .before .before .args .names .now)) l) (record { start = c .before .before .before .before .before .before .before .before .before .before .before .before .before .before .before .before .before .before .before .args .start; len = c .before .before .before .before .before .before .before .before .before .before .before .before .before .before .before .before .before .before .before .args .len }) b (heldOf (c .before .before .before .before .before .before .before .before .before .before .before .before .before .before .before .before .before .before .before .args .nodes .now) (c .before .before .before .before .before .before .before .before .before .before .before .before .before .before .before .before .before .before .before .args .names .now) (c .before .before .before .before .before .before .before .before .before .before .before .before .before .before .before .before .before .before .before .args .counts))) (cell-is _ (c .before .before .before .before .before .before .before .before .bench-lut .result) (c .before .before .before .before .before .before .before .before .bench-lut .ensures .0)) ∙ one-input (c .before .before .before .before .before .before .before .before .before .before .before .before .before .before .before .before .before .before .before .args .text .now) (entries (c .before .before .before .before .before .before .before .before .before .before .before .before .before .before .before .before .before .before .before .args .names .now) (c .before .before .before .before .before .before .before .before .before .before .before .before .before .before .before .before .before .before .before .args .counts .names)) (argumentsFrom (c .before .before .before .before .before .before .before .before .before .before .before .before .before .before .before .before .before .before .before .args .text .now) (c .before .before .before .before .before .before .before .before .before .before .before .before .before .before .before .before .before .before .before .args .from) (c .before .before .before .before .before .before .before .before .before .before .before .before .before .before .before .before .before .before .before .args .end)) (c .before .before .before .before .before .before .before .before .before .before .before .before .before .before .before .before .before .before .before .args .inputs) (c .before .before .before .before .before .before .before .before .before .before .before .before .before .before .before .before .before .before .before .pre .1 .1) (λ x. addNamed (placesIn (length (c .before .before .before .before .before .before .before .before .before .before .before .before .before .before .before .before .before .before .before .args .nodes .now)) (length (c .before .before .before .before .before .before .before .before .before .before .before .before .before .before .before .before .before .before .before .args .names .now)) l) (record { start = c .before .before .before .before .before .before .before .before .before .before .before .before .before .before .before .before .before .before .before .args .start; len = c .before .before .before .before .before .before .before .before .before .before .before .before .before .before .before .before .before .before .before .args .len }) (inverter (record { start = c .before .before .before .before .before .before .before .before .before .before .before .before .before .before .before .before .before .before .before .args .start; len = c .before .before .before .before .before .before .before .before .before .before .before .before .before .before .before .before .before .before .before .args .len }) x) (heldOf (c .before .before .before .before .before .before .before .before .before .before .before .before .before .before .before .before .before .before .before .args .nodes .now) (c .before .before .before .before .before .before .before .before .before .before .before .before .before .before .before .before .before .before .before .args .names .now) (c .before .before .before .before .before .before .before .before .before .before .before .before .before .before .before .before .before .before .before .args .counts))) (c .before .before .before .before .before .before .before .before .before .before .before .before .argument-wire .ensures .word) _ (c .before .before .before .before .before .before .before .before .before .before .before .before .argument-wire .ensures .first) (c .before .before .before .before .before .before .before .before .before .before .before .before .before .before .before .if1 .left) _ (sym (c .before .before .before .before .before .before .before .before .before .before .before .before .argument-wire .ensures .wire-is) ∙ c .before .before .before .before .before .before .before .before .before .before .wire .given .1) ∙ inverted (placesIn (length (c .before .before .before .before .before .before .before .before .before .before .before .before .before .before .before .before .before .before .before .args .nodes .now)) (length (c .before .before .before .before .before .before .before .before .before .before .before .before .before .before .before .before .before .before .before .args .names .now)) l) (record { start = c .before .before .before .before .before .before .before .before .before .before .before .before .before .before .before .before .before .before .before .args .start; len = c .before .before .before .before .before .before .before .before .before .before .before .before .before .before .before .before .before .before .before .args .len }) (heldOf (c .before .before .before .before .before .before .before .before .before .before .before .before .before .before .before .before .before .before .before .args .nodes .now) (c .before .before .before .before .before .before .before .before .before .before .before .before .before .before .before .before .before .before .before .args .names .now) (c .before .before .before .before .before .before .before .before .before .before .before .before .before .before .before .before .before .before .before .args .counts)) (inputWires (c .before .before .before .before .before .before .before .before .before .before .before .before .before .before .before .before .before .before .before .args .text .now) (entries (c .before .before .before .before .before .before .before .before .before .before .before .before .before .before .before .before .before .before .before .args .names .now) (c .before .before .before .before .before .before .before .before .before .before .before .before .before .before .before .before .before .before .before .args .counts .names)) (argumentsFrom (c .before .before .before .before .before .before .before .before .before .before .before .before .before .before .before .before .before .before .before .args .text .now) (c .before .before .before .before .before .before .before .before .before .before .before .before .before .before .before .before .before .before .before .args .from) (c .before .before .before .before .before .before .before .before .before .before .before .before .before .before .before .before .before .before .before .args .end))))
+returns-2 : tie.Need-returns-2
+returns-2 c =
+    let a = c .before .before .before .before .before .before .before .before .before .before .before .before .before .args in
+    let h = heldOf (a .nodes .now) (a .names .now) (a .counts) in
+    (c .before .before .before .before .add-named .ensures .0, λ l. rw (eq-eqb _ _ (c .before .before .before .before .before .before .before .before .before .if1 .left)) (c .before .before .before .before .add-named .ensures .1 ∙ same-places (length (a .nodes .now)) (length (a .names .now)) l (record { start = a .start; len = a .len }) (c .before .before .before .before .before .before .before .before .bench-lut .result) h ∙ ap (λ (b : BoolNode). addNamed (placesIn (length (a .nodes .now)) (length (a .names .now)) l) (record { start = a .start; len = a .len }) b h) (cell-is _ (c .before .before .before .before .before .before .before .before .bench-lut .result) (c .before .before .before .before .before .before .before .before .bench-lut .ensures .0))))
 
 pub lower-inverter-spec : {M : Type 1} → statement M
 lower-inverter-spec =
     tie.close
-    (tie.spec
-    returns
-    argument-wire-requires
-    enum-told
-    enum-known-wire
-    bench-lut-requires
-    add-named-requires
-    same-length
-    returns-2
-    same-length-2
-    same-length-3
-    returns-3)
+    (tie.spec returns bench-lut-requires add-named-requires same-length same-length-2 returns-2)
