@@ -51,7 +51,7 @@ pub fn look_end(count: usize, x: usize) -> usize
     x + 256
 }
 
-// The nodes below the lead were looked at; if x is not, those up to some way past it are. The lead stays where a kind is unknown, or x is no node.
+// The nodes below the lead were looked at; if x is not among them, those up to some way past it are. 0 where a kind is unknown or x is no node.
 pub fn look_ahead(nodes: &[usize], count: usize, lead: usize, x: usize) -> usize
     requires { ⌜ (count * 9 ≤ length (now nodes)) × (lead ≤ count) ⌝ }
     ensures { λ r. ⌜ LeadOf (now (nodes .entry)) count x r ⌝ }
@@ -60,11 +60,11 @@ pub fn look_ahead(nodes: &[usize], count: usize, lead: usize, x: usize) -> usize
         return lead;
     }
     if count <= x {
-        return lead;
+        return 0;
     }
     let end = look_end(count, x);
     if known_kinds(nodes, lead, end) {
         return end;
     }
-    lead
+    0
 }

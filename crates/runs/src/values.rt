@@ -1,19 +1,29 @@
 // What the words of a record say of its wires.
 ghost use mathlib.Core.Path.{_≡_};
 ghost use mathlib.Core.Bool.{true, false};
-ghost use Prim.Native.Nat.{_+_, _*_, _^_, _<_, _≤_};
+ghost use Prim.Native.Nat.{_+_, _*_, _%_, _^_, _<_, _≤_};
 ghost use lib.ListN.{length};
 ghost use Rattle.circuit.specs.Records.{wireOf};
 ghost use Rattle.circuit.specs.Check.{notBelow};
 ghost use Rattle.runs.specs.Values.{signalValue};
 ghost use Rattle.runs.specs.Work.{EarlierNode, TwoEarlier};
 
+// The number before, round from 0 to the greatest. A compiler makes one subtraction of two of these, of std's wrapping difference four instructions.
+pub fn one_less(number: usize) -> usize
+    ensures { λ r. ⌜ (r + 1) % 2 ^ 64 ≡ number ⌝ }
+{
+    if number == 0 {
+        return usize::MAX;
+    }
+    number - 1
+}
+
 // The wire is of a node before k. One comparison tells: a constant's word becomes a number past every node.
 pub fn earlier_node(word: usize, k: usize) -> bool
     requires { ⌜ k + 2 < 2 ^ 64 ⌝ }
     ensures { λ r. ⌜ (r ≡ true → EarlierNode k word) ⌝ }
 {
-    std::num::wrapping_sub_usize(word, 2) < k
+    one_less(one_less(word)) < k
 }
 
 // Record k has two wires, both of earlier nodes, and a table of four entries, as most cells have.

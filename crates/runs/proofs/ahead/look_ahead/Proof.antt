@@ -1,5 +1,6 @@
 -- `look_ahead` meets its contract.
 -- Assumes nothing.
+use Prim.Native.Nat.{zero-le}
 use borrow.Author.Needs.{needs}
 use Rattle.runs.proofs.ahead.look_ahead.Statement.{statement}
 use Rattle.runs.proofs.ahead.look_ahead.Tie as tie
@@ -20,7 +21,7 @@ returns-3 : tie.Need-returns-3
 returns-3 c = search needs
 
 returns-4 : tie.Need-returns-4
-returns-4 c = record { inside = c .before .before .before .before .before .before .pre .1; short = λ h l. c .before .known-kinds .ensures (c .if3 .left) (c .before .before .before .before .before .before .args .count) (c .before .before .look-end .ensures .1) }
+returns-4 c = record { inside = zero-le; short = λ h l. c .before .known-kinds .ensures (c .if3 .left) (c .before .before .before .before .before .before .args .count) (c .before .before .look-end .ensures .1) }
 
 pub look-ahead-spec : {M : Type 1} → statement M
 look-ahead-spec =
