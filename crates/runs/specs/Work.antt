@@ -70,10 +70,8 @@ pub record InputsIn (nodes : List ℕ) (count : ℕ) (assignment values : List �
 abbrev pub EarlierNode : ℕ → ℕ → Type 0
 EarlierNode k word = (2 ≤ word) × (word < k + 2)
 
--- record k has two wires, each of a node before it, and a table of four entries
-pub record TwoEarlier (nodes : List ℕ) (k : ℕ) : Type 0 where
-  pub two : getD nodes (k * 9 + 1) 0 ≡ 2
-  pub table : getD nodes (k * 9 + 2) 0 < 16
+-- both wires of record k are so
+pub record BothEarlier (nodes : List ℕ) (k : ℕ) : Type 0 where
   pub first : EarlierNode k (getD nodes (k * 9 + 7) 0)
   pub second : EarlierNode k (getD nodes (k * 9 + 8) 0)
 

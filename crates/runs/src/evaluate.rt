@@ -21,8 +21,8 @@ use crate::outputs::give;
 use crate::outputs::prepared;
 use crate::outputs::refuse;
 use crate::outputs::room_fault;
+use crate::values::both_earlier;
 use crate::values::node_value;
-use crate::values::two_earlier;
 use crate::values::wire_value;
 use cells::table_entry;
 use circuit::check::validate_topological;
@@ -35,47 +35,60 @@ pub enum Evaluated {
     Refused(Refusal),
 }
 
-// Of cell k, the entry of the table at the index that the values of the wires give; 2 where the record breaks a rule or reads a node that is not earlier.
-pub fn any_entry(nodes: &[usize], k: usize, values: &[u8]) -> u8
-    requires { ⌜ Next (now nodes) k (now values) × (nodeAt (now nodes) k .kind ≡ 2) ⌝ }
+// Of cell k with two wires, the entry of the table at the index that their values give; 2 where the record breaks a rule or reads a node that is not earlier.
+pub fn two_wire_entry(nodes: &[usize], k: usize, values: &[u8]) -> u8
+    requires { ⌜ Next (now nodes) k (now values) × (nodeAt (now nodes) k .kind ≡ 2) × (nodeAt (now nodes) k .count ≡ 2) ⌝ }
     ensures { λ r. ⌜ EntryIs k (nodeAt (now (nodes .entry)) k) (now (values .entry)) r ⌝ }
 {
     let at = k * 9;
     let table = nodes[at + 2];
+    if 16 <= table {
+        return 2;
+    }
+    if both_earlier(nodes, k) {
+        let a = node_value(nodes[at + 7], values);
+        let b = node_value(nodes[at + 8], values);
+        return table_entry(table, 2 * a + b) as u8;
+    }
     if k + 2 <= nodes[at + 7] {
         return 2;
     }
+    if k + 2 <= nodes[at + 8] {
+        return 2;
+    }
     let a = wire_value(nodes[at + 7], values);
-    if nodes[at + 1] == 2 {
-        if 16 <= table {
-            return 2;
-        }
-        if k + 2 <= nodes[at + 8] {
-            return 2;
-        }
-        let b = wire_value(nodes[at + 8], values);
-        return table_entry(table, 2 * a + b) as u8;
-    }
-    if nodes[at + 1] == 1 {
-        if table < 4 {
-            return table_entry(table, a) as u8;
-        }
-    }
-    2
+    let b = wire_value(nodes[at + 8], values);
+    table_entry(table, 2 * a + b) as u8
 }
 
-// The same, with a short way for the most frequent cell.
+// The same of cell k with one wire.
+pub fn one_wire_entry(nodes: &[usize], k: usize, values: &[u8]) -> u8
+    requires { ⌜ Next (now nodes) k (now values) × (nodeAt (now nodes) k .kind ≡ 2) × (nodeAt (now nodes) k .count ≡ 1) ⌝ }
+    ensures { λ r. ⌜ EntryIs k (nodeAt (now (nodes .entry)) k) (now (values .entry)) r ⌝ }
+{
+    let at = k * 9;
+    let table = nodes[at + 2];
+    if 4 <= table {
+        return 2;
+    }
+    if k + 2 <= nodes[at + 7] {
+        return 2;
+    }
+    table_entry(table, wire_value(nodes[at + 7], values)) as u8
+}
+
+// The same of any cell k.
 pub fn cell_entry(nodes: &[usize], k: usize, values: &[u8]) -> u8
     requires { ⌜ Next (now nodes) k (now values) × (nodeAt (now nodes) k .kind ≡ 2) ⌝ }
     ensures { λ r. ⌜ EntryIs k (nodeAt (now (nodes .entry)) k) (now (values .entry)) r ⌝ }
 {
-    if two_earlier(nodes, k) {
-        let at = k * 9;
-        let a = node_value(nodes[at + 7], values);
-        let b = node_value(nodes[at + 8], values);
-        return table_entry(nodes[at + 2], 2 * a + b) as u8;
+    if nodes[k * 9 + 1] == 2 {
+        return two_wire_entry(nodes, k, values);
     }
-    any_entry(nodes, k, values)
+    if nodes[k * 9 + 1] == 1 {
+        return one_wire_entry(nodes, k, values);
+    }
+    2
 }
 
 // The value of node k goes into the store, if it is a cell. False where it breaks a rule, or is no cell and has no value.

@@ -12,54 +12,67 @@ ghost use Rattle.runs.specs.Work.{Tells, Graded};
 ghost use Rattle.runs.specs.Steps.{PlaceOf, Steppable, Turn, Stepped, Unmarked, Standing};
 use crate::ahead::first_lead;
 use crate::ahead::look_ahead;
+use crate::values::both_earlier;
 use crate::values::node_value;
-use crate::values::two_earlier;
 use crate::values::wire_value;
 use cells::answer_table;
 
-// The place of cell x's answer in the table of answers: 9 * table + 3 * first + second, of one wire as of two whose first is 0.
+// The place of the answer of cell x with two wires in the table of answers: 9 * table + 3 * first + second.
 // 144 or more where the record breaks a rule, or where it reads a cell that waits.
-pub fn any_place(nodes: &[usize], x: usize, values: &[u8]) -> usize
-    requires { ⌜ (x * 9 + 9 ≤ length (now nodes)) × (x < length (now values)) × Graded (now values) × (nodeAt (now nodes) x .kind ≡ 2) ⌝ }
+pub fn two_wire_place(nodes: &[usize], x: usize, values: &[u8]) -> usize
+    requires { ⌜ (x * 9 + 9 ≤ length (now nodes)) × (x < length (now values)) × Graded (now values) × (nodeAt (now nodes) x .kind ≡ 2) × (nodeAt (now nodes) x .count ≡ 2) ⌝ }
     ensures { λ r. ⌜ PlaceOf x (nodeAt (now (nodes .entry)) x) (now (values .entry)) r ⌝ }
 {
     let at = x * 9;
     let table = nodes[at + 2];
+    if 16 <= table {
+        return 144;
+    }
+    if both_earlier(nodes, x) {
+        let a = node_value(nodes[at + 7], values);
+        let b = node_value(nodes[at + 8], values);
+        return 9 * table + 3 * a + b;
+    }
     if x + 2 <= nodes[at + 7] {
         return 144;
     }
+    if x + 2 <= nodes[at + 8] {
+        return 144;
+    }
     let a = wire_value(nodes[at + 7], values);
-    if nodes[at + 1] == 2 {
-        if 16 <= table {
-            return 144;
-        }
-        if x + 2 <= nodes[at + 8] {
-            return 144;
-        }
-        let b = wire_value(nodes[at + 8], values);
-        return 9 * table + 3 * a + b;
-    }
-    if nodes[at + 1] == 1 {
-        if table < 4 {
-            return 9 * table + a;
-        }
-    }
-    144
+    let b = wire_value(nodes[at + 8], values);
+    9 * table + 3 * a + b
 }
 
-// The same of any record, with a short way for the most frequent cell; 144 where it is no cell's.
+// The same of cell x with one wire: the place of two whose first is 0.
+pub fn one_wire_place(nodes: &[usize], x: usize, values: &[u8]) -> usize
+    requires { ⌜ (x * 9 + 9 ≤ length (now nodes)) × (x < length (now values)) × Graded (now values) × (nodeAt (now nodes) x .kind ≡ 2) × (nodeAt (now nodes) x .count ≡ 1) ⌝ }
+    ensures { λ r. ⌜ PlaceOf x (nodeAt (now (nodes .entry)) x) (now (values .entry)) r ⌝ }
+{
+    let at = x * 9;
+    let table = nodes[at + 2];
+    if 4 <= table {
+        return 144;
+    }
+    if x + 2 <= nodes[at + 7] {
+        return 144;
+    }
+    9 * table + wire_value(nodes[at + 7], values)
+}
+
+// The same of any record; 144 where it is no cell's.
 pub fn answer_place(nodes: &[usize], x: usize, values: &[u8]) -> usize
     requires { ⌜ (x * 9 + 9 ≤ length (now nodes)) × (x < length (now values)) × Graded (now values) ⌝ }
     ensures { λ r. ⌜ PlaceOf x (nodeAt (now (nodes .entry)) x) (now (values .entry)) r ⌝ }
 {
     let at = x * 9;
     if nodes[at] == 2 {
-        if two_earlier(nodes, x) {
-            let a = node_value(nodes[at + 7], values);
-            let b = node_value(nodes[at + 8], values);
-            return 9 * nodes[at + 2] + 3 * a + b;
+        if nodes[at + 1] == 2 {
+            return two_wire_place(nodes, x, values);
         }
-        return any_place(nodes, x, values);
+        if nodes[at + 1] == 1 {
+            return one_wire_place(nodes, x, values);
+        }
     }
     144
 }

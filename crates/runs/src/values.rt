@@ -6,7 +6,7 @@ ghost use lib.ListN.{length};
 ghost use Rattle.circuit.specs.Records.{wireOf};
 ghost use Rattle.circuit.specs.Check.{notBelow};
 ghost use Rattle.runs.specs.Values.{signalValue};
-ghost use Rattle.runs.specs.Work.{EarlierNode, TwoEarlier};
+ghost use Rattle.runs.specs.Work.{EarlierNode, BothEarlier};
 
 // The number before, round from 0 to the greatest. A compiler makes one subtraction of two of these, of std's wrapping difference four instructions.
 pub fn one_less(number: usize) -> usize
@@ -26,18 +26,14 @@ pub fn earlier_node(word: usize, k: usize) -> bool
     one_less(one_less(word)) < k
 }
 
-// Record k has two wires, both of earlier nodes, and a table of four entries, as most cells have.
-pub fn two_earlier(nodes: &[usize], k: usize) -> bool
+// Both wires of record k are of earlier nodes, as those of most cells are.
+pub fn both_earlier(nodes: &[usize], k: usize) -> bool
     requires { ⌜ k * 9 + 9 ≤ length (now nodes) ⌝ }
-    ensures { λ r. ⌜ (r ≡ true → TwoEarlier (now (nodes .entry)) k) ⌝ }
+    ensures { λ r. ⌜ (r ≡ true → BothEarlier (now (nodes .entry)) k) ⌝ }
 {
     let at = k * 9;
-    if nodes[at + 1] == 2 {
-        if nodes[at + 2] < 16 {
-            if earlier_node(nodes[at + 7], k) {
-                return earlier_node(nodes[at + 8], k);
-            }
-        }
+    if earlier_node(nodes[at + 7], k) {
+        return earlier_node(nodes[at + 8], k);
     }
     false
 }

@@ -1,12 +1,10 @@
 -- `answer_place` meets its contract.
 -- Assumes nothing.
 use mathlib.Core.Path.{sym, _∙_}
-use Prim.Native.Nat.{_+_, _*_}
-use native.Mathlib.Omega.{arith}
-use lib.ListN.{getD}
 use Rattle.circuit.specs.Records.{nodeAt}
-use Rattle.runs.proofs.Turns.{kind-word, word-behind}
-use Rattle.runs.proofs.Places.{other-place, place-two}
+use Rattle.runs.proofs.Turns.{kind-word}
+use Rattle.runs.proofs.Rules.{count-broken}
+use Rattle.runs.proofs.Places.{other-place, broken-place}
 use borrow.Author.Needs.{needs}
 use Rattle.runs.proofs.step.answer_place.Statement.{statement}
 use Rattle.runs.proofs.step.answer_place.Tie as tie
@@ -20,67 +18,41 @@ mul-if1 c = search needs
 shared-slice-read-if1 : tie.Need-shared-slice-read-if1
 shared-slice-read-if1 c = search needs
 
-two-earlier-requires : tie.Need-two-earlier-requires
-two-earlier-requires c κs = search needs
+add-if2 : tie.Need-add-if2
+add-if2 c = search needs
 
-add-node-value : tie.Need-add-node-value
-add-node-value c = search needs
+mul-if2 : tie.Need-mul-if2
+mul-if2 c = search needs
 
-mul-node-value : tie.Need-mul-node-value
-mul-node-value c = search needs
+shared-slice-read-if2 : tie.Need-shared-slice-read-if2
+shared-slice-read-if2 c = search needs
 
-shared-slice-read-node-value : tie.Need-shared-slice-read-node-value
-shared-slice-read-node-value c = search needs
-
-node-value-requires : tie.Need-node-value-requires
-node-value-requires c κs = let t = c .before .before .two-earlier .ensures (c .before .if2 .taken) in (t .first .0, omega (arith, t .first .1, c .before .before .before .before .before .before .before .pre .1))
-
-add-node-value-2 : tie.Need-add-node-value-2
-add-node-value-2 c = search needs
-
-mul-node-value-2 : tie.Need-mul-node-value-2
-mul-node-value-2 c = search needs
-
-shared-slice-read-node-value-2 : tie.Need-shared-slice-read-node-value-2
-shared-slice-read-node-value-2 c = search needs
-
-node-value-requires-2 : tie.Need-node-value-requires-2
-node-value-requires-2 c κs = let t = c .before .before .before .before .two-earlier .ensures (c .before .before .before .if2 .taken) in (t .second .0, omega (arith, t .second .1, c .before .before .before .before .before .before .before .before .before .pre .1))
-
-add-result : tie.Need-add-result
-add-result c = search needs
-
-mul-result : tie.Need-mul-result
-mul-result c = search needs
-
-shared-slice-read-result : tie.Need-shared-slice-read-result
-shared-slice-read-result c = search needs
-
-mul-result-2 : tie.Need-mul-result-2
-mul-result-2 c = let t = c .before .before .before .before .before .before .two-earlier .ensures (c .before .before .before .before .before .if2 .taken) in omega (arith, t .table)
-
-mul-result-3 : tie.Need-mul-result-3
-mul-result-3 c = search needs
-
-add-result-2 : tie.Need-add-result-2
-add-result-2 c = let t = c .before .before .before .before .before .before .two-earlier .ensures (c .before .before .before .before .before .if2 .taken) in omega (arith, c .before .before .before .node-value .ensures .1, t .table)
-
-add-result-3 : tie.Need-add-result-3
-add-result-3 c = let t = c .before .before .before .before .before .before .two-earlier .ensures (c .before .before .before .before .before .if2 .taken) in omega (arith, c .before .before .before .node-value .ensures .1, c .before .node-value2 .ensures .1, t .table)
+two-wire-place-requires : tie.Need-two-wire-place-requires
+two-wire-place-requires c κs = (c .before .before .before .before .before .before .pre .0, c .before .before .before .before .before .before .pre .1, c .before .before .before .before .before .before .pre .2, kind-word (c .before .before .before .before .before .before .args .nodes .now) (c .before .before .before .before .before .before .args .x) ∙ c .before .before .if1 .taken, c .if2 .taken)
 
 returns : tie.Need-returns
-returns c =
-    let t = c .before .before .before .before .before .before .two-earlier .ensures (c .before .before .before .before .before .if2 .taken) in
-    place-two (c .before .before .before .before .before .before .before .before .before .before .before .args .x) (nodeAt (c .before .before .before .before .before .before .before .before .before .before .before .args .nodes .now) (c .before .before .before .before .before .before .before .before .before .before .before .args .x)) (c .before .before .before .before .before .before .before .before .before .before .before .args .values .now) (c .before .before .before .before .before .before .before .before .before .before .before .pre .2) (kind-word (c .before .before .before .before .before .before .before .before .before .before .before .args .nodes .now) (c .before .before .before .before .before .before .before .before .before .before .before .args .x) ∙ c .before .before .before .before .before .before .before .if1 .taken) _ (c .before .before .before .node-value .ensures .0) (word-behind (c .before .before .before .before .before .before .before .before .before .before .before .args .x) (getD (c .before .before .before .before .before .before .before .before .before .before .before .args .nodes .now) (c .before .before .before .before .before .before .before .before .before .before .before .args .x * 9 + 7) 0) (t .first .1)) (t .two) (t .table) _ (c .before .node-value2 .ensures .0) (word-behind (c .before .before .before .before .before .before .before .before .before .before .before .args .x) (getD (c .before .before .before .before .before .before .before .before .before .before .before .args .nodes .now) (c .before .before .before .before .before .before .before .before .before .before .before .args .x * 9 + 8) 0) (t .second .1))
+returns c = search needs
 
-any-place-requires : tie.Need-any-place-requires
-any-place-requires c κs = (c .before .before .before .before .before .before .pre .0, c .before .before .before .before .before .before .pre .1, c .before .before .before .before .before .before .pre .2, kind-word (c .before .before .before .before .before .before .args .nodes .now) (c .before .before .before .before .before .before .args .x) ∙ c .before .before .if1 .taken)
+add-if3 : tie.Need-add-if3
+add-if3 c = search needs
+
+mul-if3 : tie.Need-mul-if3
+mul-if3 c = search needs
+
+shared-slice-read-if3 : tie.Need-shared-slice-read-if3
+shared-slice-read-if3 c = search needs
+
+one-wire-place-requires : tie.Need-one-wire-place-requires
+one-wire-place-requires c κs = (c .before .before .before .before .before .before .before .before .pre .0, c .before .before .before .before .before .before .before .before .pre .1, c .before .before .before .before .before .before .before .before .pre .2, kind-word (c .before .before .before .before .before .before .before .before .args .nodes .now) (c .before .before .before .before .before .before .before .before .args .x) ∙ c .before .before .before .before .if1 .taken, c .if3 .taken)
 
 returns-2 : tie.Need-returns-2
 returns-2 c = search needs
 
 returns-3 : tie.Need-returns-3
-returns-3 c = other-place (c .before .before .before .before .args .x) (nodeAt (c .before .before .before .before .args .nodes .now) (c .before .before .before .before .args .x)) (c .before .before .before .before .args .values .now) (λ e. c .if1 .left (sym (kind-word (c .before .before .before .before .args .nodes .now) (c .before .before .before .before .args .x)) ∙ e))
+returns-3 c = broken-place (c .before .before .before .before .before .before .before .before .args .x) (nodeAt (c .before .before .before .before .before .before .before .before .args .nodes .now) (c .before .before .before .before .before .before .before .before .args .x)) (c .before .before .before .before .before .before .before .before .args .values .now) (count-broken (c .before .before .before .before .before .before .before .before .args .x) (nodeAt (c .before .before .before .before .before .before .before .before .args .nodes .now) (c .before .before .before .before .before .before .before .before .args .x)) (kind-word (c .before .before .before .before .before .before .before .before .args .nodes .now) (c .before .before .before .before .before .before .before .before .args .x) ∙ c .before .before .before .before .if1 .taken) (c .if3 .left) (c .before .before .if2 .left))
+
+returns-4 : tie.Need-returns-4
+returns-4 c = other-place (c .before .before .before .before .args .x) (nodeAt (c .before .before .before .before .args .nodes .now) (c .before .before .before .before .args .x)) (c .before .before .before .before .args .values .now) (λ e. c .if1 .left (sym (kind-word (c .before .before .before .before .args .nodes .now) (c .before .before .before .before .args .x)) ∙ e))
 
 pub answer-place-spec : {M : Type 1} → statement M
 answer-place-spec =
@@ -89,23 +61,15 @@ answer-place-spec =
     mul-at
     mul-if1
     shared-slice-read-if1
-    two-earlier-requires
-    add-node-value
-    mul-node-value
-    shared-slice-read-node-value
-    node-value-requires
-    add-node-value-2
-    mul-node-value-2
-    shared-slice-read-node-value-2
-    node-value-requires-2
-    add-result
-    mul-result
-    shared-slice-read-result
-    mul-result-2
-    mul-result-3
-    add-result-2
-    add-result-3
+    add-if2
+    mul-if2
+    shared-slice-read-if2
+    two-wire-place-requires
     returns
-    any-place-requires
+    add-if3
+    mul-if3
+    shared-slice-read-if3
+    one-wire-place-requires
     returns-2
-    returns-3)
+    returns-3
+    returns-4)

@@ -1,30 +1,12 @@
--- `two_earlier` meets its contract.
+-- `both_earlier` meets its contract.
 -- Assumes nothing.
 use mathlib.Core.Bool.{false≢true}
 use borrow.Author.Needs.{needs}
-use Rattle.runs.proofs.values.two_earlier.Statement.{statement}
-use Rattle.runs.proofs.values.two_earlier.Tie as tie
+use Rattle.runs.proofs.values.both_earlier.Statement.{statement}
+use Rattle.runs.proofs.values.both_earlier.Tie as tie
 
 mul-at : tie.Need-mul-at
 mul-at c = search needs
-
-add-if1 : tie.Need-add-if1
-add-if1 c = search needs
-
-mul-if1 : tie.Need-mul-if1
-mul-if1 c = search needs
-
-shared-slice-read-if1 : tie.Need-shared-slice-read-if1
-shared-slice-read-if1 c = search needs
-
-add-if2 : tie.Need-add-if2
-add-if2 c = search needs
-
-mul-if2 : tie.Need-mul-if2
-mul-if2 c = search needs
-
-shared-slice-read-if2 : tie.Need-shared-slice-read-if2
-shared-slice-read-if2 c = search needs
 
 add-earlier-node : tie.Need-add-earlier-node
 add-earlier-node c = search needs
@@ -51,28 +33,16 @@ earlier-node-requires-2 : tie.Need-earlier-node-requires-2
 earlier-node-requires-2 c κs = search needs
 
 returns : tie.Need-returns
-returns c = λ e. record { two = c .before .before .before .before .before .before .before .if1 .taken; table = c .before .before .before .before .before .if2 .taken; first = c .before .before .before .earlier-node .ensures (c .before .before .if3 .taken); second = c .earlier-node2 .ensures e }
+returns c = λ e. record { first = c .before .before .before .earlier-node .ensures (c .before .before .if1 .taken); second = c .earlier-node2 .ensures e }
 
 returns-2 : tie.Need-returns-2
 returns-2 c = λ e. absurd (false≢true e)
 
-returns-3 : tie.Need-returns-3
-returns-3 c = λ e. absurd (false≢true e)
-
-returns-4 : tie.Need-returns-4
-returns-4 c = λ e. absurd (false≢true e)
-
-pub two-earlier-spec : {M : Type 1} → statement M
-two-earlier-spec =
+pub both-earlier-spec : {M : Type 1} → statement M
+both-earlier-spec =
     tie.close
     (tie.spec
     mul-at
-    add-if1
-    mul-if1
-    shared-slice-read-if1
-    add-if2
-    mul-if2
-    shared-slice-read-if2
     add-earlier-node
     mul-earlier-node
     shared-slice-read-earlier-node
@@ -82,6 +52,4 @@ two-earlier-spec =
     shared-slice-read-earlier-node-2
     earlier-node-requires-2
     returns
-    returns-2
-    returns-3
-    returns-4)
+    returns-2)
