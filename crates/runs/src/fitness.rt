@@ -158,9 +158,9 @@ fn few_marks() -> [usize; 64] {
     [0; 64]
 }
 
-// A mark for each of 1,048,576 nodes, the most that a reader makes.
-fn many_marks() -> [usize; 16384] {
-    [0; 16384]
+// A mark for each of 131,072 nodes: eight passes for the most that a reader makes, and a small place on the stack.
+fn many_marks() -> [usize; 2048] {
+    [0; 2048]
 }
 
 // A small circuit has small marks.
