@@ -95,20 +95,28 @@ pub fn skip_blocks(text: &[u8], x: u8, from: usize, end: usize) -> usize
     i
 }
 
+// The same, eight bytes at a time.
+pub fn find_by_eights(text: &[u8], x: u8, from: usize, end: usize) -> usize
+    requires { ⌜ (from ≤ end) × (end ≤ length (now text)) ⌝ }
+    ensures { λ r. ⌜ (r ≡ from + run (isNot x) (stretch (now (text .entry)) from (end - from))) × (r ≤ end) ⌝ }
+{
+    let b = wide(x);
+    if 128 <= b {
+        return scan_byte(text, x, from, end);
+    }
+    find_between(text, b, b, from, end)
+}
+
 // The same where it is mostly far, as the end of a line is: 32 bytes at a time, then eight.
 pub fn find_far_byte(text: &[u8], x: u8, from: usize, end: usize) -> usize
     requires { ⌜ (from ≤ end) × (end ≤ length (now text)) ⌝ }
     ensures { λ r. ⌜ (r ≡ from + run (isNot x) (stretch (now (text .entry)) from (end - from))) × (r ≤ end) ⌝ }
 {
-    let b = wide(x);
     let i = skip_blocks(text, x, from, end);
-    if 128 <= b {
-        return scan_byte(text, x, i, end);
-    }
-    find_between(text, b, b, i, end)
+    find_by_eights(text, x, i, end)
 }
 
-// The same where it is mostly near, as the end of a word is: eight bytes one by one, then as above.
+// The same where it is mostly near, as the end of a word is: eight bytes one by one, then eight at a time.
 pub fn find_byte(text: &[u8], x: u8, from: usize, end: usize) -> usize
     requires { ⌜ (from ≤ end) × (end ≤ length (now text)) ⌝ }
     ensures { λ r. ⌜ (r ≡ from + run (isNot x) (stretch (now (text .entry)) from (end - from))) × (r ≤ end) ⌝ }
@@ -118,7 +126,7 @@ pub fn find_byte(text: &[u8], x: u8, from: usize, end: usize) -> usize
     if i < near {
         return i;
     }
-    find_far_byte(text, x, near, end)
+    find_by_eights(text, x, near, end)
 }
 
 pub fn to_ascii_uppercase(b: u8) -> u8

@@ -24,11 +24,11 @@ scan-byte-requires c κs = search needs
 returns : tie.Need-returns
 returns c = (stop-near (isNot (c .before .before .before .before .args .x)) (c .before .before .before .before .args .text .now) (c .before .before .before .before .args .from) (c .before .before .before .before .args .from + c .before .before .least .result) (c .before .before .before .before .args .end) (omega arith) (omega (arith, c .before .before .least .ensures, c .before .before .before .before .pre .0)) (c .before .scan-byte .result) (c .before .scan-byte .ensures .0) (c .if1 .taken), omega (arith, c .before .before .least .ensures, c .before .before .before .before .pre .0, c .before .scan-byte .ensures .1))
 
-find-far-byte-requires : tie.Need-find-far-byte-requires
-find-far-byte-requires c κs = search needs
+find-by-eights-requires : tie.Need-find-by-eights-requires
+find-by-eights-requires c κs = search needs
 
 returns-2 : tie.Need-returns-2
-returns-2 c = (c .find-far-byte .ensures .0 ∙ pass-near (isNot (c .before .before .before .before .before .args .x)) (c .before .before .before .before .before .args .text .now) (c .before .before .before .before .before .args .from) (c .before .before .before .before .before .args .from + c .before .before .before .least .result) (c .before .before .before .before .before .args .end) (omega arith) (omega (arith, c .before .before .before .least .ensures, c .before .before .before .before .before .pre .0)) (c .before .before .scan-byte .result) (c .before .before .scan-byte .ensures .0) (c .before .if1 .left), c .find-far-byte .ensures .1)
+returns-2 c = (c .find-by-eights .ensures .0 ∙ pass-near (isNot (c .before .before .before .before .before .args .x)) (c .before .before .before .before .before .args .text .now) (c .before .before .before .before .before .args .from) (c .before .before .before .before .before .args .from + c .before .before .before .least .result) (c .before .before .before .before .before .args .end) (omega arith) (omega (arith, c .before .before .before .least .ensures, c .before .before .before .before .before .pre .0)) (c .before .before .scan-byte .result) (c .before .before .scan-byte .ensures .0) (c .before .if1 .left), c .find-by-eights .ensures .1)
 
 pub find-byte-spec : {M : Type 1} → statement M
 find-byte-spec =
@@ -39,5 +39,5 @@ find-byte-spec =
     add-near
     scan-byte-requires
     returns
-    find-far-byte-requires
+    find-by-eights-requires
     returns-2)
