@@ -22,6 +22,11 @@ pub struct Measured {
 /// The measured sizes of each case, in the order in which the cases came.
 pub type Cases = BTreeMap<Case, BTreeMap<usize, Measured>>;
 
+/// A number as it is shown: two places after the point, three where it is small.
+pub fn shown(n: f64) -> String {
+    if n < 0.095 { format!("{n:.3}") } else { format!("{n:.2}") }
+}
+
 pub fn median(mut numbers: Vec<f64>) -> Option<f64> {
     numbers.sort_by(f64::total_cmp);
     match numbers.len() {

@@ -1,5 +1,5 @@
 //! A chart of the ratios as SVG: a bar for each case at its largest size that both sides finish, on a logarithmic axis.
-use crate::cases::Cases;
+use crate::cases::{Cases, shown};
 use std::fmt::Write;
 
 const ROW: f64 = 17.0;
@@ -53,7 +53,7 @@ pub fn svg(cases: &Cases) -> String {
         );
         let _ = writeln!(svg, "<text x=\"{:.1}\" y=\"{:.1}\" text-anchor=\"end\">{name}</text>", LEFT - 8.0, y + 12.5);
         let at = if *ratio > 1.0 { to + 4.0 } else { x(1.0) + 4.0 };
-        let _ = writeln!(svg, "<text x=\"{at:.1}\" y=\"{:.1}\">{ratio:.2}</text>", y + 12.5);
+        let _ = writeln!(svg, "<text x=\"{at:.1}\" y=\"{:.1}\">{}</text>", y + 12.5, shown(*ratio));
     }
     svg.push_str("</svg>\n");
     svg

@@ -9,6 +9,7 @@ mod running;
 mod scheduling;
 mod texts;
 mod timing;
+mod unchecked;
 
 fn main() {
     let words: Vec<String> = std::env::args().skip(1).collect();

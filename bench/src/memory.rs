@@ -9,6 +9,7 @@ mod running;
 mod scheduling;
 mod texts;
 mod timing;
+mod unchecked;
 
 use circuits::{Shape, circuit};
 use reading::KINDS;

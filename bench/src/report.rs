@@ -4,12 +4,12 @@ mod cases;
 mod chart;
 mod growth_chart;
 
-use cases::{Case, Cases, Measured, cases, growth};
+use cases::{Case, Cases, Measured, cases, growth, shown};
 use std::collections::{BTreeMap, BTreeSet};
 use std::fmt::Write;
 
 fn number(n: Option<f64>) -> String {
-    n.map_or("-".to_owned(), |n| if n < 0.095 { format!("{n:.3}") } else { format!("{n:.2}") })
+    n.map_or("-".to_owned(), shown)
 }
 
 fn time(nanoseconds: Option<f64>) -> String {
@@ -147,7 +147,7 @@ the machine's noise included, a case's ratios differ by a factor of {} in the mi
 - This library gets areas that were allocated once and just fit, filled with old words before the first call; later calls find what the one before \
 left. They are not cleared between calls: what a call clears is in its time. `roomy` areas would do for any text of that length.\n\
 - The reference takes a `&str` and allocates; dropping its result is not in its time. Its map of inputs for `evaluate` is made beforehand.\n\
-- `run` has no counterpart in the reference and stands beside its `evaluate`; `sweep` goes over all numbered assignments (the size is the number of cells).\n\
+- `run` has no counterpart in the reference and stands beside its `evaluate`; `unchecked-run` is the same run in Rust without any check or test of an index, over the same records and list: what a run costs at least. `sweep` goes over all numbered assignments (the size is the number of cells).\n\
 - `crate-` is the Rust crate in `rust/`, which makes its areas, records and structs anew at each call; its `Evaluator` keeps them.\n\
 - A side that is expected to take over a second, judged by its growth so far, is left out.\n\
 - Before the times both sides' answers are compared: circuits of texts up to 100 KB, orders of up to 10,000 cells, the outputs of `evaluate` and \
@@ -162,7 +162,7 @@ Bytes lent to this library's call (held at most by the Rust crate's), and the mo
         number(spreads.iter().copied().reduce(f64::max)),
         ratios(times, &["read", "crate-read"], &[10_240, 102_400, 1_048_576]),
         ratios(times, &["schedule", "crate-schedule"], &powers),
-        ratios(times, &["evaluate", "crate-evaluate", "crate-evaluator", "run"], &powers),
+        ratios(times, &["evaluate", "crate-evaluate", "crate-evaluator", "run", "unchecked-run"], &powers),
         ratios(times, &["sweep", "crate-sweep"], &[100, 1_000]),
         growths(times),
         memories(memory)

@@ -2,6 +2,7 @@
 use crate::circuits::{Both, Shape, circuit, of_crate, swept};
 use crate::scheduling;
 use crate::timing::{both, print};
+use crate::unchecked::Unchecked;
 use relay::archive;
 use std::collections::HashMap;
 use std::time::Duration;
@@ -74,6 +75,10 @@ pub fn all() {
         areas.run(&made, order, &bits);
         assert_eq!(areas.answers, expected, "outputs differ");
         print("run", "layered", size, "known", both(budget, Some(|| areas.run(&made, order, &bits)), Some(theirs)));
+        let mut unchecked = Unchecked::new(&made);
+        // the first output is the last node
+        assert_eq!(unchecked.run(&made, order, &bits), expected[0], "outputs differ");
+        print("unchecked-run", "layered", size, "known", both(budget, Some(|| unchecked.run(&made, order, &bits)), Some(theirs)));
         let half: Vec<u8> = bits.iter().enumerate().map(|(p, bit)| if p % 2 == 0 { 2 } else { *bit }).collect();
         print("run", "layered", size, "half-unknown", both(budget, Some(|| areas.run(&made, order, &half)), Some(theirs)));
     }

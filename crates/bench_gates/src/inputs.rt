@@ -61,7 +61,7 @@ pub fn keep_wire(n: usize, k: usize, wire: usize, kept: usize) -> usize
     kept
 }
 
-// 5 at the first argument without a driver.
+// 5 at the first argument without a driver. What `argument_wire` does stands here in place: as a call of its own it costs a copy of both slices' places.
 pub fn input_wires(
     text: &[u8],
     from: usize,
@@ -80,8 +80,10 @@ pub fn input_wires(
     let mut second = 0;
     let mut third = 0;
     while at <= end {
-        let a = argument_wire(text, at, end, heads, names, count);
-        let wire = a.wire;
+        let a = next_argument(text, at, end);
+        let start = a.start;
+        let len = a.len;
+        let wire = find_wire(text, start, len, true, heads, names, count);
         let Found::At(x) = wire else {
             return Inputs {
                 fault: Checked::Refused(Refusal::NoDriver),

@@ -9,7 +9,7 @@ ghost use Rattle.bench_invocations.specs.Walks.{argumentsFrom, ArgumentI
 use circuit::refusals::Checked;
 use circuit::refusals::Refusal;
 use reading::records::Counted;
-use text::bytes::find_byte;
+use text::bytes::find_far_byte;
 use text::words::trim;
 
 // How many bytes of a stretch there are up to the last x, with it; 0 if there is none.
@@ -39,7 +39,7 @@ pub fn next_argument(text: &[u8], at: usize, end: usize) -> Argument
     requires { ⌜ (at ≤ end) × (end ≤ length (now text)) ⌝ }
     ensures { λ r. ⌜ ArgumentIs (now (text .entry)) at end r ⌝ }
 {
-    let cut = find_byte(text, 44, at, end);
+    let cut = find_far_byte(text, 44, at, end);
     let w = trim(text, at, cut);
     Argument {
         start: w.start,

@@ -106,11 +106,6 @@ module _ (p : ℕ → Bool) (t : List ℕ) (from near end : ℕ) (h : from ≤ n
   unfolding stretch
   part-run n = run-take p n (drop from t)
 
-  pub stop-near : (i : ℕ) → i ≡ from + run p (stretch t from (near - from)) → i < near → i ≡ from + run p (stretch t from (end - from))
-  stop-near i e l =
-      let q : run p (drop from t) + from ≡ i = omega (arith, h, e, l, part-run (near - from)) in
-      omega (arith, k, l, q, part-run (end - from))
-
   pub pass-near : (i : ℕ) → i ≡ from + run p (stretch t from (near - from)) → near ≤ i → near + run p (stretch t near (end - near)) ≡ from + run p (stretch t from (end - from))
   unfolding stretch
   pass-near i e l =

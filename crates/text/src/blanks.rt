@@ -5,7 +5,6 @@ ghost use lib.ListN.{length};
 ghost use Rattle.laws.specs.Stretches.{stretch, run};
 ghost use Rattle.text.specs.Blanks.{isBlank, notBlank, trimEnd};
 use crate::eights::find_between;
-use crate::eights::least;
 
 pub fn is_blank(b: u8) -> bool
     ensures { λ r. ⌜ r ≡ isBlank b ⌝ }
@@ -49,8 +48,8 @@ pub fn scan_blank(text: &[u8], from: usize, end: usize) -> usize
     i
 }
 
-// The same where it is mostly far: a blank lies from 9 to 32, and what else lies there is rare.
-pub fn find_far_blank(text: &[u8], from: usize, end: usize) -> usize
+// The same, eight bytes at a time: a blank lies from 9 to 32, and what else lies there is rare.
+pub fn find_blank(text: &[u8], from: usize, end: usize) -> usize
     requires { ⌜ (from ≤ end) × (end ≤ length (now text)) ⌝ }
     ensures { λ r. ⌜ (r ≡ from + run notBlank (stretch (now (text .entry)) from (end - from))) × (r ≤ end) ⌝ }
 {
@@ -62,19 +61,6 @@ pub fn find_far_blank(text: &[u8], from: usize, end: usize) -> usize
         return i;
     }
     scan_blank(text, i, end)
-}
-
-// The same: eight bytes one by one, since most words are short, then as above.
-pub fn find_blank(text: &[u8], from: usize, end: usize) -> usize
-    requires { ⌜ (from ≤ end) × (end ≤ length (now text)) ⌝ }
-    ensures { λ r. ⌜ (r ≡ from + run notBlank (stretch (now (text .entry)) from (end - from))) × (r ≤ end) ⌝ }
-{
-    let near = from + least(end - from, 8);
-    let i = scan_blank(text, from, near);
-    if i < near {
-        return i;
-    }
-    find_far_blank(text, near, end)
 }
 
 // How much of a stretch is left without the blanks at its end.

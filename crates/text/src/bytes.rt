@@ -9,7 +9,6 @@ ghost use Rattle.laws.specs.Lists.{some};
 ghost use Rattle.laws.specs.Stretches.{stretch, run, isNot, sameBytes};
 ghost use Rattle.text.specs.Bytes.{isAscii, isByte, upper, isNamed};
 use crate::eights::find_between;
-use crate::eights::least;
 use crate::eights::wide;
 
 // The greater of two bytes.
@@ -96,7 +95,7 @@ pub fn skip_blocks(text: &[u8], x: u8, from: usize, end: usize) -> usize
 }
 
 // The same, eight bytes at a time.
-pub fn find_by_eights(text: &[u8], x: u8, from: usize, end: usize) -> usize
+pub fn find_byte(text: &[u8], x: u8, from: usize, end: usize) -> usize
     requires { ⌜ (from ≤ end) × (end ≤ length (now text)) ⌝ }
     ensures { λ r. ⌜ (r ≡ from + run (isNot x) (stretch (now (text .entry)) from (end - from))) × (r ≤ end) ⌝ }
 {
@@ -113,20 +112,7 @@ pub fn find_far_byte(text: &[u8], x: u8, from: usize, end: usize) -> usize
     ensures { λ r. ⌜ (r ≡ from + run (isNot x) (stretch (now (text .entry)) from (end - from))) × (r ≤ end) ⌝ }
 {
     let i = skip_blocks(text, x, from, end);
-    find_by_eights(text, x, i, end)
-}
-
-// The same where it is mostly near, as the end of a word is: eight bytes one by one, then eight at a time.
-pub fn find_byte(text: &[u8], x: u8, from: usize, end: usize) -> usize
-    requires { ⌜ (from ≤ end) × (end ≤ length (now text)) ⌝ }
-    ensures { λ r. ⌜ (r ≡ from + run (isNot x) (stretch (now (text .entry)) from (end - from))) × (r ≤ end) ⌝ }
-{
-    let near = from + least(end - from, 8);
-    let i = scan_byte(text, x, from, near);
-    if i < near {
-        return i;
-    }
-    find_by_eights(text, x, near, end)
+    find_byte(text, x, i, end)
 }
 
 pub fn to_ascii_uppercase(b: u8) -> u8

@@ -65,14 +65,14 @@ pub fn between_bits(word: usize, low: usize, high: usize) -> usize
     above & below & 9259542123273814144
 }
 
-// How many of eight bytes come before the first from `low` to `high`: all at once where they are below 128.
+// How many of eight bytes come before the first from `low` to `high`: all at once where they are below 128, else 9.
 pub fn before_between(text: &[u8], low: usize, high: usize, at: usize) -> usize
     requires { ⌜ (at + 8 ≤ length (now text)) × (low < 128) × (high < 128) ⌝ }
-    ensures { λ r. ⌜ r ≡ run (outside low high) (stretch (now (text .entry)) at 8) ⌝ }
+    ensures { λ r. ⌜ (r ≤ 8 → r ≡ run (outside low high) (stretch (now (text .entry)) at 8)) ⌝ }
 {
     let word = eight_bytes(text, at);
     if word & 9259542123273814144 != 0 {
-        return scan_between(text, low, high, at, at + 8) - at;
+        return 9;
     }
     let hits = between_bits(word, low, high);
     if hits == 0 {
@@ -90,7 +90,8 @@ pub fn least(a: usize, b: usize) -> usize
     b
 }
 
-// The first place of a byte from `low` to `high`, eight bytes at a time while there are eight in the text.
+// The first place of a byte from `low` to `high`, eight bytes at a time while there are eight in the text, all below 128.
+// Nothing that walks the same eight bytes one by one may stand in the loop: the compiler would then load each by itself.
 pub fn find_between(text: &[u8], low: usize, high: usize, from: usize, end: usize) -> usize
     requires { ⌜ (from ≤ end) × (end ≤ length (now text)) × (low < 128) × (high < 128) ⌝ }
     ensures { λ r. ⌜ (r ≡ from + run (outside low high) (stretch (now (text .entry)) from (end - from))) × (r ≤ end) ⌝ }
@@ -103,6 +104,9 @@ pub fn find_between(text: &[u8], low: usize, high: usize, from: usize, end: usiz
         let n = before_between(text, low, high, i);
         if n < 8 {
             return least(i + n, end);
+        }
+        if 8 < n {
+            return scan_between(text, low, high, i, end);
         }
         i += 8;
     }

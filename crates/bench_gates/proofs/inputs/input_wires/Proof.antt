@@ -23,8 +23,11 @@ abbrev μ-loop : tie.MeasureT-loop
 loop-holds : tie.Need-loop-holds Inv-loop μ-loop
 loop-holds c = (omega arith, walking-start _ _ _)
 
-argument-wire-requires : tie.Need-argument-wire-requires Inv-loop μ-loop
-argument-wire-requires c κs = (c .before .before .before .before .pre .0, (c .loop-test .taken, c .before .before .before .before .pre .1))
+next-argument-requires : tie.Need-next-argument-requires Inv-loop μ-loop
+next-argument-requires c κs = (c .loop-test .taken, c .before .before .before .before .pre .1)
+
+find-wire-requires : tie.Need-find-wire-requires Inv-loop μ-loop
+find-wire-requires c κs = (c .before .before .before .before .before .pre .0, c .next-argument .ensures .inside)
 
 enum-known-wire : tie.Need-enum-known-wire Inv-loop μ-loop
 enum-known-wire c = search needs
@@ -34,8 +37,8 @@ enum-told c = search needs
 
 returns : tie.Need-returns Inv-loop μ-loop
 returns c =
-    let q = walking-stop (c .before .before .before .before .before .before .before .args .text .now) (entries (c .before .before .before .before .before .before .before .args .names .now) (c .before .before .before .before .before .before .before .args .count)) (argumentsFrom (c .before .before .before .before .before .before .before .args .text .now) (c .before .before .before .before .before .before .before .args .from) (c .before .before .before .before .before .before .before .args .end)) (argumentsFrom (c .before .before .before .before .before .before .before .args .text .now) (c .before .before .before .before .loop .at) (c .before .before .before .before .before .before .before .args .end)) (c .before .before .before .before .loop .n) (record { first = c .before .before .before .before .loop .first; second = c .before .before .before .before .loop .second; third = c .before .before .before .before .loop .third }) (c .before .before .before .before .loop .inv .1) (c .before .before .argument-wire .ensures .word) _ (c .before .before .argument-wire .ensures .first) (sym (c .before .before .argument-wire .ensures .wire-is) ∙ c .enum-told .given .1) in
-    record { fault-is = ap faultOf q; firsts = no-wires (c .before .before .before .before .before .before .before .args .text .now) (entries (c .before .before .before .before .before .before .before .args .names .now) (c .before .before .before .before .before .before .before .args .count)) (argumentsFrom (c .before .before .before .before .before .before .before .args .text .now) (c .before .before .before .before .before .before .before .args .from) (c .before .before .before .before .before .before .before .args .end)) _ noWires q }
+    let q = walking-stop (c .before .before .before .before .before .before .before .before .args .text .now) (entries (c .before .before .before .before .before .before .before .before .args .names .now) (c .before .before .before .before .before .before .before .before .args .count)) (argumentsFrom (c .before .before .before .before .before .before .before .before .args .text .now) (c .before .before .before .before .before .before .before .before .args .from) (c .before .before .before .before .before .before .before .before .args .end)) (argumentsFrom (c .before .before .before .before .before .before .before .before .args .text .now) (c .before .before .before .before .before .loop .at) (c .before .before .before .before .before .before .before .before .args .end)) (c .before .before .before .before .before .loop .n) (record { first = c .before .before .before .before .before .loop .first; second = c .before .before .before .before .before .loop .second; third = c .before .before .before .before .before .loop .third }) (c .before .before .before .before .before .loop .inv .1) (record { start = c .before .before .before .next-argument .result .start; len = c .before .before .before .next-argument .result .len }) _ (c .before .before .before .next-argument .ensures .first) (sym (c .before .before .find-wire .ensures) ∙ c .enum-told .given .1) in
+    record { fault-is = ap faultOf q; firsts = no-wires (c .before .before .before .before .before .before .before .before .args .text .now) (entries (c .before .before .before .before .before .before .before .before .args .names .now) (c .before .before .before .before .before .before .before .before .args .count)) (argumentsFrom (c .before .before .before .before .before .before .before .before .args .text .now) (c .before .before .before .before .before .before .before .before .args .from) (c .before .before .before .before .before .before .before .before .args .end)) _ noWires q }
 
 keep-wire-requires : tie.Need-keep-wire-requires Inv-loop μ-loop
 keep-wire-requires c κs = tt
@@ -47,13 +50,13 @@ keep-wire-requires-3 : tie.Need-keep-wire-requires-3 Inv-loop μ-loop
 keep-wire-requires-3 c κs = tt
 
 add-n : tie.Need-add-n Inv-loop μ-loop
-add-n c = omega (arith, c .before .before .before .before .before .before .argument-wire .ensures .on, c .before .before .before .before .before .before .argument-wire .ensures .reach, c .before .before .before .before .before .before .before .before .loop .inv .0)
+add-n c = omega (arith, c .before .before .before .before .before .before .before .next-argument .ensures .on, c .before .before .before .before .before .before .before .next-argument .ensures .reach, c .before .before .before .before .before .before .before .before .before .loop .inv .0)
 
 loop-less : tie.Need-loop-less Inv-loop μ-loop
-loop-less c = omega (arith, c .before .before .before .before .before .before .argument-wire .ensures .on, c .before .before .before .before .before .before .argument-wire .ensures .reach)
+loop-less c = omega (arith, c .before .before .before .before .before .before .before .next-argument .ensures .on, c .before .before .before .before .before .before .before .next-argument .ensures .reach)
 
 loop-again : tie.Need-loop-again Inv-loop μ-loop
-loop-again c = (omega (arith, c .before .before .before .before .before .before .argument-wire .ensures .on, c .before .before .before .before .before .before .before .before .loop .inv .0), rw (c .before .before .keep-wire .ensures, c .before .keep-wire2 .ensures, c .keep-wire3 .ensures) (walking-more (c .before .before .before .before .before .before .before .before .before .before .before .args .text .now) (entries (c .before .before .before .before .before .before .before .before .before .before .before .args .names .now) (c .before .before .before .before .before .before .before .before .before .before .before .args .count)) (argumentsFrom (c .before .before .before .before .before .before .before .before .before .before .before .args .text .now) (c .before .before .before .before .before .before .before .before .before .before .before .args .from) (c .before .before .before .before .before .before .before .before .before .before .before .args .end)) (argumentsFrom (c .before .before .before .before .before .before .before .before .before .before .before .args .text .now) (c .before .before .before .before .before .before .before .before .loop .at) (c .before .before .before .before .before .before .before .before .before .before .before .args .end)) (c .before .before .before .before .before .before .before .before .loop .n) (record { first = c .before .before .before .before .before .before .before .before .loop .first; second = c .before .before .before .before .before .before .before .before .loop .second; third = c .before .before .before .before .before .before .before .before .loop .third }) (c .before .before .before .before .before .before .before .before .loop .inv .1) (c .before .before .before .before .before .before .argument-wire .ensures .word) _ (c .before .before .before .before .before .before .argument-wire .ensures .first) _ (sym (c .before .before .before .before .before .before .argument-wire .ensures .wire-is) ∙ c .before .before .before .before .wire .given .1)))
+loop-again c = (omega (arith, c .before .before .before .before .before .before .before .next-argument .ensures .on, c .before .before .before .before .before .before .before .before .before .loop .inv .0), rw (c .before .before .keep-wire .ensures, c .before .keep-wire2 .ensures, c .keep-wire3 .ensures) (walking-more (c .before .before .before .before .before .before .before .before .before .before .before .before .args .text .now) (entries (c .before .before .before .before .before .before .before .before .before .before .before .before .args .names .now) (c .before .before .before .before .before .before .before .before .before .before .before .before .args .count)) (argumentsFrom (c .before .before .before .before .before .before .before .before .before .before .before .before .args .text .now) (c .before .before .before .before .before .before .before .before .before .before .before .before .args .from) (c .before .before .before .before .before .before .before .before .before .before .before .before .args .end)) (argumentsFrom (c .before .before .before .before .before .before .before .before .before .before .before .before .args .text .now) (c .before .before .before .before .before .before .before .before .before .loop .at) (c .before .before .before .before .before .before .before .before .before .before .before .before .args .end)) (c .before .before .before .before .before .before .before .before .before .loop .n) (record { first = c .before .before .before .before .before .before .before .before .before .loop .first; second = c .before .before .before .before .before .before .before .before .before .loop .second; third = c .before .before .before .before .before .before .before .before .before .loop .third }) (c .before .before .before .before .before .before .before .before .before .loop .inv .1) (record { start = c .before .before .before .before .before .before .before .next-argument .result .start; len = c .before .before .before .before .before .before .before .next-argument .result .len }) _ (c .before .before .before .before .before .before .before .next-argument .ensures .first) _ (sym (c .before .before .before .before .before .before .find-wire .ensures) ∙ c .before .before .before .before .wire .given .1)))
 
 returns-2 : tie.Need-returns-2 Inv-loop μ-loop
 returns-2 c =
@@ -67,7 +70,8 @@ input-wires-spec =
     Inv-loop
     μ-loop
     loop-holds
-    argument-wire-requires
+    next-argument-requires
+    find-wire-requires
     enum-known-wire
     enum-told
     returns

@@ -13,38 +13,26 @@ use Rattle.text.proofs.eights.before_between.Tie as tie
 eight-bytes-requires : tie.Need-eight-bytes-requires
 eight-bytes-requires c κs = search needs
 
-add-scan-between : tie.Need-add-scan-between
-add-scan-between c = search needs
-
-scan-between-requires : tie.Need-scan-between-requires
-scan-between-requires c κs = search needs
-
-sub-result : tie.Need-sub-result
-sub-result c = search needs
-
 returns : tie.Need-returns
-returns c = let e : c .before .before .before .before .args .at + 8 - c .before .before .before .before .args .at ≡ 8 = omega arith in omega (arith, c .scan-between .ensures .0, ap (λ (n : ℕ). run (outside (c .before .before .before .before .args .low) (c .before .before .before .before .args .high)) (stretch (c .before .before .before .before .args .text .now) (c .before .before .before .before .args .at) n)) e)
+returns c = λ h. absurd (omega (arith, h))
 
 between-bits-requires : tie.Need-between-bits-requires
 between-bits-requires c κs = (word-small (c .before .before .before .args .text .now) (c .before .before .before .args .at) (c .before .before .before .pre .0) (λ i. omega (arith, c .before .before .shared-slice-known .given i)) (c .before .eight-bytes .result) (c .before .eight-bytes .ensures) (c .if1 .left), c .before .before .before .pre .1, c .before .before .before .pre .2)
 
 returns-2 : tie.Need-returns-2
-returns-2 c = none-here (c .before .before .before .before .before .args .text .now) (c .before .before .before .before .before .args .at) (c .before .before .before .before .before .pre .0) (λ i. omega (arith, c .before .before .before .before .shared-slice-known .given i)) (c .before .before .before .eight-bytes .result) (c .before .before .before .eight-bytes .ensures) (c .before .before .if1 .left) (c .before .before .before .before .before .args .low) (c .before .before .before .before .before .args .high) (c .before .between-bits .result) (c .before .between-bits .ensures) (c .if2 .taken)
+returns-2 c = λ _. none-here (c .before .before .before .before .before .args .text .now) (c .before .before .before .before .before .args .at) (c .before .before .before .before .before .pre .0) (λ i. omega (arith, c .before .before .before .before .shared-slice-known .given i)) (c .before .before .before .eight-bytes .result) (c .before .before .before .eight-bytes .ensures) (c .before .before .if1 .left) (c .before .before .before .before .before .args .low) (c .before .before .before .before .before .args .high) (c .before .between-bits .result) (c .before .between-bits .ensures) (c .if2 .taken)
 
 cast-result : tie.Need-cast-result
 cast-result c = record { fits = omega (arith, zeros-below (c .before .between-bits .result) (omega (arith, c .before .between-bits .ok)) (c .if2 .left)) }
 
 returns-3 : tie.Need-returns-3
-returns-3 c = first-here (c .before .before .before .before .before .args .text .now) (c .before .before .before .before .before .args .at) (c .before .before .before .before .before .pre .0) (λ i. omega (arith, c .before .before .before .before .shared-slice-known .given i)) (c .before .before .before .eight-bytes .result) (c .before .before .before .eight-bytes .ensures) (c .before .before .if1 .left) (c .before .before .before .before .before .args .low) (c .before .before .before .before .before .args .high) (c .before .between-bits .result) (c .before .between-bits .ensures) (omega (arith, c .before .between-bits .ok)) (c .if2 .left)
+returns-3 c = λ _. first-here (c .before .before .before .before .before .args .text .now) (c .before .before .before .before .before .args .at) (c .before .before .before .before .before .pre .0) (λ i. omega (arith, c .before .before .before .before .shared-slice-known .given i)) (c .before .before .before .eight-bytes .result) (c .before .before .before .eight-bytes .ensures) (c .before .before .if1 .left) (c .before .before .before .before .before .args .low) (c .before .before .before .before .before .args .high) (c .before .between-bits .result) (c .before .between-bits .ensures) (omega (arith, c .before .between-bits .ok)) (c .if2 .left)
 
 pub before-between-spec : {M : Type 1} → statement M
 before-between-spec =
     tie.close
     (tie.spec
     eight-bytes-requires
-    add-scan-between
-    scan-between-requires
-    sub-result
     returns
     between-bits-requires
     returns-2
