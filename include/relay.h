@@ -9,7 +9,7 @@
  * - what a call writes (areas and counts) overlaps no other argument of the same call. What is only read may overlap.
  * An area that is longer than needed costs the time to clear it; one that is too short is refused (RELAY_NO_ROOM).
  *
- * The calls keep nothing between them, allocate nothing and may run in parallel on areas of their own. relay_run takes some 130 KB of
+ * The calls keep nothing between them, allocate nothing and may run in parallel on areas of their own. relay_run takes some 17 KB of
  * stack, the others less than 4 KB.
  */
 #ifndef RELAY_H
