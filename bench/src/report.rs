@@ -147,7 +147,7 @@ the machine's noise included, a case's ratios differ by a factor of {} in the mi
 - This library gets areas that were allocated once and just fit, filled with old words before the first call; later calls find what the one before \
 left. They are not cleared between calls: what a call clears is in its time. `roomy` areas would do for any text of that length.\n\
 - The reference takes a `&str` and allocates; dropping its result is not in its time. Its map of inputs for `evaluate` is made beforehand.\n\
-- `run` has no counterpart in the reference and stands beside its `evaluate`; `unchecked-run` is the same run in Rust without any check or test of an index, over the same records and list: what a run costs at least. `sweep` goes over all numbered assignments (the size is the number of cells).\n\
+- `run` has no counterpart in the reference and stands beside its `evaluate`; `unchecked-run` is a plain loop in Rust over the same records and list without any check or test of an index; it is no bound. `sweep` goes over all numbered assignments (the size is the number of cells).\n\
 - `crate-` is the Rust crate in `rust/`, which makes its areas, records and structs anew at each call; its `Evaluator` keeps them.\n\
 - A side that is expected to take over a second, judged by its growth so far, is left out.\n\
 - Before the times both sides' answers are compared: circuits of texts up to 100 KB, orders of up to 10,000 cells, the outputs of `evaluate` and \

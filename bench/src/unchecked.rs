@@ -1,5 +1,5 @@
-//! A run without a check: what steps along a list over these records cost at least, whoever compiles them.
-//! It is no part of the library: it trusts the records and the list, and tests no index.
+//! A run without a check, for comparison: one plain loop of steps along the same list over the same records.
+//! It is no part of the library and no bound: it trusts the records and the list, and tests no index.
 use crate::circuits::{Both, INPUTS};
 
 /// From this many nodes on records are touched in storage order a little ahead of the list, as the library does.

@@ -8,7 +8,7 @@ use mathlib.Core.List.{List, [], _∷_, map}
 use native.Mathlib.Omega.{arith}
 use native.Mathlib.Nat.{not-suc-le-zero}
 use lib.Dec.{T, eqb, leb, ltb}
-use lib.Bits.{bitAnd}
+use lib.Bits.{bitAnd, and-le-r}
 use lib.Count.{trailingZeros}
 use lib.ListN.{length, getD, drop, replicate}
 use lib.Seq.{drop-drop}
@@ -106,6 +106,10 @@ all-lanes : (P : ℕ → Type 0) (bs : List ℕ) → ((i : ℕ) → i < length b
 all-lanes P [] f = tt
 all-lanes P (b ∷ bs) f = (f 0 (omega arith), all-lanes P bs (λ i h. f (suc i) (omega arith)))
 
+and-first : (a b : Bool) → a && b ≡ true → a ≡ true
+and-first true b h = refl
+and-first false b h = h
+
 and-second : (a b : Bool) → a && b ≡ true → b ≡ true
 and-second true b h = h
 and-second false b h = absurd (false≢true h)
@@ -122,6 +126,22 @@ below-half bs n h e = all-lanes (λ b. b < 128) bs small
         let z : isSet (wordOf bs) (8 * i + 7) && isSet mask (8 * i + 7) ≡ false = sym (bit-and (wordOf bs) mask (8 * i + 7)) ∙ ap (λ (x : ℕ). isSet x (8 * i + 7)) e ∙ bit-zero (8 * i + 7) in
         let o : isSet (wordOf bs) (8 * i + 7) ≡ false = and-right _ _ z (mask-lane i (omega (arith, n, l))) in
         leb-false 128 (getD bs i 0) (sym (lane-bit bs h i l) ∙ o)
+
+-- such bytes have no bit of the mask
+pub half-masked : (bs : List ℕ) → length bs ≡ 8 → All (λ b. b < 128) bs → bitAnd (wordOf bs) mask ≢ 0 → ⊥
+half-masked bs n h z =
+    let x = bitAnd (wordOf bs) mask in
+    let s : x < 2 ^ 64 = omega (arith, and-le-r (wordOf bs) mask) in
+    let t = trailingZeros 64 x in
+    let f : isSet x t ≡ true = lowest 64 x s z .at in
+    let g : isSet (wordOf bs) t && isSet mask t ≡ true = sym (bit-and (wordOf bs) mask t) ∙ f in
+    let m : t % 8 ≡ 7 = mask-only t (and-second (isSet (wordOf bs) t) (isSet mask t) g) in
+    let w : t < 64 = bit-below x 64 t s f in
+    let e : 8 * (t / 8) + 7 ≡ t = omega (arith, m) in
+    let l : t / 8 < length bs = omega (arith, w, n) in
+    let b : leb 128 (getD bs (t / 8) 0) ≡ true = sym (lane-bit bs (all-map bs (λ b q. omega (arith, q)) h) (t / 8) l) ∙ ap (isSet (wordOf bs)) e ∙ and-first (isSet (wordOf bs) t) (isSet mask t) g in
+    let u : getD bs (t / 8) 0 < 128 = all-at (λ b. b < 128) bs (t / 8) h l in
+    omega (arith, leb-true 128 (getD bs (t / 8) 0) b, u)
 
 pub half-word : (bs : List ℕ) → length bs ≡ 8 → All (λ b. b < 128) bs → wordOf bs ≤ 9187201950435737471
 half-word bs n h =

@@ -3,7 +3,7 @@ ghost use mathlib.Core.Path.{_≡_};
 ghost use mathlib.Core.Bool.{not};
 ghost use Prim.Native.Nat.{_+_, _-_, _≤_, _<_, min};
 ghost use lib.ListN.{length};
-ghost use Rattle.laws.specs.Stretches.{stretch, run};
+ghost use Rattle.laws.specs.Stretches.{stretch, run, All};
 ghost use Rattle.text.specs.Eights.{eightAt, outside, BetweenOf};
 
 // A byte as a word.
@@ -68,7 +68,7 @@ pub fn between_bits(word: usize, low: usize, high: usize) -> usize
 // How many of eight bytes come before the first from `low` to `high`: all at once where they are below 128, else 9.
 pub fn before_between(text: &[u8], low: usize, high: usize, at: usize) -> usize
     requires { ⌜ (at + 8 ≤ length (now text)) × (low < 128) × (high < 128) ⌝ }
-    ensures { λ r. ⌜ (r ≤ 8 → r ≡ run (outside low high) (stretch (now (text .entry)) at 8)) ⌝ }
+    ensures { λ r. ⌜ (r ≤ 8 → r ≡ run (outside low high) (stretch (now (text .entry)) at 8)) × (All (λ b. b < 128) (stretch (now (text .entry)) at 8) → r ≤ 8) ⌝ }
 {
     let word = eight_bytes(text, at);
     if word & 9259542123273814144 != 0 {

@@ -38,7 +38,7 @@ least-requires : tie.Need-least-requires Inv-loop μ-loop
 least-requires c κs = tt
 
 returns-2 : tie.Need-returns-2 Inv-loop μ-loop
-returns-2 c = (omega (arith, c .least .ensures, stop-in (outside (c .before .before .before .before .before .before .before .args .low) (c .before .before .before .before .before .before .before .args .high)) (c .before .before .before .before .before .before .before .args .text .now) (c .before .before .before .before .before .loop .i) (c .before .before .before .before .before .before .before .args .end) (omega arith) (c .before .before .before-between .result) (c .before .before .before-between .ensures (omega arith)) (c .before .if2 .taken), c .before .before .before .before .before .loop .inv .1), omega (arith, c .least .ensures))
+returns-2 c = (omega (arith, c .least .ensures, stop-in (outside (c .before .before .before .before .before .before .before .args .low) (c .before .before .before .before .before .before .before .args .high)) (c .before .before .before .before .before .before .before .args .text .now) (c .before .before .before .before .before .loop .i) (c .before .before .before .before .before .before .before .args .end) (omega arith) (c .before .before .before-between .result) (c .before .before .before-between .ensures .0 (omega arith)) (c .before .if2 .taken), c .before .before .before .before .before .loop .inv .1), omega (arith, c .least .ensures))
 
 scan-between-requires-2 : tie.Need-scan-between-requires-2 Inv-loop μ-loop
 scan-between-requires-2 c κs = (omega arith, c .before .before .before .before .before .before .before .pre .1)
@@ -53,7 +53,7 @@ loop-less : tie.Need-loop-less Inv-loop μ-loop
 loop-less c = omega arith
 
 loop-again : tie.Need-loop-again Inv-loop μ-loop
-loop-again c = (omega arith, omega (arith, pass-eight (outside (c .before .before .before .before .before .before .before .args .low) (c .before .before .before .before .before .before .before .args .high)) (c .before .before .before .before .before .before .before .args .text .now) (c .before .before .before .before .before .loop .i) (c .before .before .before .before .before .before .before .args .end) (omega arith) (c .before .before .before-between .result) (c .before .before .before-between .ensures (omega arith)) (omega arith), c .before .before .before .before .before .loop .inv .1))
+loop-again c = (omega arith, omega (arith, pass-eight (outside (c .before .before .before .before .before .before .before .args .low) (c .before .before .before .before .before .before .before .args .high)) (c .before .before .before .before .before .before .before .args .text .now) (c .before .before .before .before .before .loop .i) (c .before .before .before .before .before .before .before .args .end) (omega arith) (c .before .before .before-between .result) (c .before .before .before-between .ensures .0 (omega arith)) (omega arith), c .before .before .before .before .before .loop .inv .1))
 
 returns-4 : tie.Need-returns-4 Inv-loop μ-loop
 returns-4 c = (omega (arith, run-end (outside (c .before .before .before .args .low) (c .before .before .before .args .high)) (c .before .before .before .args .text .now) (c .before .loop .i) (c .before .before .before .args .end) (c .loop-test .left), c .before .loop .inv .1), omega arith)
