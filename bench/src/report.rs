@@ -1,4 +1,4 @@
-//! Turns measured lines into ratio, growth and memory lines, docs/BENCHMARKS.md and its two charts.
+//! Turns measured lines into ratio, growth and memory lines (docs/benchmarks.txt), docs/BENCHMARKS.md and its two charts.
 //! Usage: report MACHINE FOLDER MEMORY TIMES.., a file of times for each layout.
 mod cases;
 mod chart;
@@ -140,6 +140,8 @@ fn page(machine: &str, layouts: usize, times: &Cases, memory: &Cases) -> String 
 One run of `bench/run [REFERENCE]`, which writes this page and its charts. Machine: {machine}. A ratio is this library's time over that of the \
 unchanged Rust reference on the same input: below 1 this library is faster.\n\n\
 ![ratios](benchmarks.svg)\n\n\
+[benchmarks.txt](benchmarks.txt) has all ratios as lines for a script, `ratio PART SUBJECT SIZE KIND NUMBER`, and lines `growth` (this library's, the \
+reference's) and `memory` of the same form.\n\n\
 How it is measured:\n\n\
 - Both sides in one program, in turn; CPU time of the thread, the shortest of several. The program is linked in {layouts} layouts (the functions in \
 another order), since the place of a tight loop alone can change its time; the median over the layouts is shown. From layout to layout, \
@@ -147,7 +149,10 @@ the machine's noise included, a case's ratios differ by a factor of {} in the mi
 - This library gets areas that were allocated once and just fit, filled with old words before the first call; later calls find what the one before \
 left. They are not cleared between calls: what a call clears is in its time. `roomy` areas would do for any text of that length.\n\
 - The reference takes a `&str` and allocates; dropping its result is not in its time. Its map of inputs for `evaluate` is made beforehand.\n\
-- `run` has no counterpart in the reference and stands beside its `evaluate`; `unchecked-run` is a plain loop in Rust over the same records and list without any check or test of an index; it is no bound. `sweep` goes over all numbered assignments (the size is the number of cells).\n\
+- `run` has no counterpart in the reference and stands beside its `evaluate`, which takes the storage order and checks nothing; the list is that of a \
+window (window 1 gives the storage order). `checked`: the reference's `validate_topological` is called before its `evaluate`, as who wants a circuit \
+checked has to; this library's `evaluate` and run check it in any case. `unchecked-run` is a plain loop in Rust over the same records and list without \
+any check or test of an index. `sweep` goes over all numbered assignments (the size is the number of cells).\n\
 - `crate-` is the Rust crate in `rust/`, which makes its areas, records and structs anew at each call; its `Evaluator` keeps them.\n\
 - A side that is expected to take over a second, judged by its growth so far, is left out.\n\
 - Before the times both sides' answers are compared: circuits of texts up to 100 KB, orders of up to 10,000 cells, the outputs of `evaluate` and \
@@ -162,7 +167,7 @@ Bytes lent to this library's call (held at most by the Rust crate's), and the mo
         number(spreads.iter().copied().reduce(f64::max)),
         ratios(times, &["read", "crate-read"], &[10_240, 102_400, 1_048_576]),
         ratios(times, &["schedule", "crate-schedule"], &powers),
-        ratios(times, &["evaluate", "crate-evaluate", "crate-evaluator", "run", "unchecked-run"], &powers),
+        ratios(times, &["evaluate", "crate-evaluate", "crate-evaluator", "run", "unchecked-run"], &[100, 1_000, 10_000, 62_500, 100_000, 1_000_000]),
         ratios(times, &["sweep", "crate-sweep"], &[100, 1_000]),
         growths(times),
         memories(memory)
@@ -175,7 +180,9 @@ fn main() {
     let read = |path: &String| std::fs::read_to_string(path).expect(path);
     let layouts: Vec<String> = times.iter().map(read).collect();
     let (times, memory) = (cases("time", &layouts), cases("memory", &[read(memory)]));
-    print!("{}", lines(&times, &memory));
+    let numbers = lines(&times, &memory);
+    print!("{numbers}");
+    std::fs::write(format!("{folder}/benchmarks.txt"), numbers).expect("the lines are written");
     std::fs::write(format!("{folder}/benchmarks.svg"), chart::svg(&times)).expect("the chart is written");
     std::fs::write(format!("{folder}/benchmarks-growth.svg"), growth_chart::svg(&times)).expect("the chart is written");
     std::fs::write(format!("{folder}/BENCHMARKS.md"), page(machine, layouts.len(), &times, &memory)).expect("the page is written");

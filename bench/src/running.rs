@@ -42,7 +42,7 @@ impl Areas {
 
 pub fn all() {
     let budget = Duration::from_millis(60);
-    for size in [1_000, 10_000, 62_500, 100_000, 125_000, 250_000, 500_000, 1_000_000] {
+    for size in [100, 1_000, 10_000, 62_500, 100_000, 125_000, 250_000, 500_000, 1_000_000] {
         let made = circuit(Shape::Layered, size);
         let bits = assignment(&made);
         let map = named(&made, &bits);
@@ -69,18 +69,24 @@ pub fn all() {
             print("crate-evaluator", "layered", size, "known", both(budget, Some(ours), Some(theirs)));
         }
 
-        let mut scheduled = scheduling::Areas::new(&made);
-        let cells = scheduled.schedule(&made, 64);
-        let order = &scheduled.order[..cells];
-        areas.run(&made, order, &bits);
-        assert_eq!(areas.answers, expected, "outputs differ");
-        print("run", "layered", size, "known", both(budget, Some(|| areas.run(&made, order, &bits)), Some(theirs)));
-        let mut unchecked = Unchecked::new(&made);
-        // the first output is the last node
-        assert_eq!(unchecked.run(&made, order, &bits), expected[0], "outputs differ");
-        print("unchecked-run", "layered", size, "known", both(budget, Some(|| unchecked.run(&made, order, &bits)), Some(theirs)));
-        let half: Vec<u8> = bits.iter().enumerate().map(|(p, bit)| if p % 2 == 0 { 2 } else { *bit }).collect();
-        print("run", "layered", size, "half-unknown", both(budget, Some(|| areas.run(&made, order, &half)), Some(theirs)));
+        let checked = || made.circuit.validate_topological().map(|()| made.circuit.evaluate(&map).expect("outputs")).expect("a circuit");
+        print("evaluate", "layered", size, "known-checked", both(budget, Some(|| areas.evaluate(&made, &bits)), Some(checked)));
+        let (mut scheduled, mut unchecked) = (scheduling::Areas::new(&made), Unchecked::new(&made));
+        for (window, word) in [(1, "window-1"), (64, "window-64"), (usize::MAX, "window-all")] {
+            let cells = scheduled.schedule(&made, window);
+            let order = &scheduled.order[..cells];
+            areas.run(&made, order, &bits);
+            assert_eq!(areas.answers, expected, "outputs differ");
+            print("run", "layered", size, word, both(budget, Some(|| areas.run(&made, order, &bits)), Some(theirs)));
+            // the first output is the last node
+            assert_eq!(unchecked.run(&made, order, &bits), expected[0], "outputs differ");
+            print("unchecked-run", "layered", size, word, both(budget, Some(|| unchecked.run(&made, order, &bits)), Some(theirs)));
+            if window == 64 {
+                let half: Vec<u8> = bits.iter().enumerate().map(|(p, bit)| if p % 2 == 0 { 2 } else { *bit }).collect();
+                print("run", "layered", size, "window-64-half-unknown", both(budget, Some(|| areas.run(&made, order, &half)), Some(theirs)));
+                print("run", "layered", size, "window-64-checked", both(budget, Some(|| areas.run(&made, order, &bits)), Some(checked)));
+            }
+        }
     }
     for (inputs, cells) in [(10, 100), (10, 1_000), (16, 100)] {
         let made = swept(inputs, cells);

@@ -1,10 +1,10 @@
 //! A run without a check, for comparison: one plain loop of steps along the same list over the same records.
-//! It is no part of the library and no bound: it trusts the records and the list, and tests no index.
+//! It is no part of the library: it trusts the records and the list, and tests no index.
 use crate::circuits::{Both, INPUTS};
 
-/// From this many nodes on records are touched in storage order a little ahead of the list, as the library does.
+/// Up to this many nodes the list is gone through at once; above, block by block after a pass in storage order over the records that a block reaches, as the library does.
 const NEAR: usize = 16_384;
-const AHEAD: usize = 256;
+const BLOCK: usize = 2_048;
 
 pub struct Unchecked {
     answers: [u8; 144],
@@ -25,26 +25,35 @@ impl Unchecked {
 
     /// The value of the last node.
     pub fn run(&mut self, made: &Both, order: &[usize], bits: &[u8]) -> u8 {
-        let (nodes, values, count) = (&made.nodes[..], &mut self.values[..], made.nodes.len() / 9);
-        values.fill(255);
-        values[..INPUTS].copy_from_slice(bits);
-        let (mut lead, mut touched) = (if count <= NEAR { count } else { 0 }, 0);
+        let count = made.nodes.len() / 9;
+        self.values.fill(255);
+        self.values[..INPUTS].copy_from_slice(bits);
+        if count <= NEAR {
+            self.steps(&made.nodes, order);
+        } else {
+            let mut lead = 0;
+            for block in order.chunks(BLOCK) {
+                let top = block.iter().step_by(8).fold(lead, |top, x| top.max(x + 1));
+                std::hint::black_box((lead..top).fold(0, |sum: usize, k| sum ^ made.nodes[k * 9] ^ made.nodes[k * 9 + 8]));
+                lead = top;
+                self.steps(&made.nodes, block);
+            }
+        }
+        let last = self.values[count - 1];
+        self.values.fill(0);
+        last
+    }
+
+    #[inline(never)]
+    fn steps(&mut self, nodes: &[usize], order: &[usize]) {
+        let (values, answers) = (&mut self.values[..], &self.answers);
         for &x in order {
             // SAFETY: the caller's circuit has two wires of earlier nodes in each cell, its list names cells, and its values are below 3.
             unsafe {
-                if x >= lead {
-                    let end = count.min(x + AHEAD);
-                    touched += (lead..end).map(|k| *nodes.get_unchecked(k * 9)).sum::<usize>();
-                    lead = end;
-                }
                 let (a, b) = (*nodes.get_unchecked(x * 9 + 7) - 2, *nodes.get_unchecked(x * 9 + 8) - 2);
                 let (first, second) = (usize::from(*values.get_unchecked(a)), usize::from(*values.get_unchecked(b)));
-                *values.get_unchecked_mut(x) = *self.answers.get_unchecked(9 * *nodes.get_unchecked(x * 9 + 2) + 3 * first + second);
+                *values.get_unchecked_mut(x) = *answers.get_unchecked(9 * *nodes.get_unchecked(x * 9 + 2) + 3 * first + second);
             }
         }
-        let last = values[count - 1];
-        std::hint::black_box(touched);
-        values.fill(0);
-        last
     }
 }

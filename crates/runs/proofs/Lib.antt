@@ -12,6 +12,7 @@ pub mod Places
 pub mod Marks
 pub mod Placing
 pub mod Standing
+pub mod Through
 pub mod Valuing
 pub mod Running
 pub mod Numbering

@@ -36,10 +36,10 @@ circuit-of nodes outputs e = circuit-sound (nodesIn nodes) (wiresIn outputs) (no
 
 -- ---- the store
 
-graded-marks : (n k : ℕ) → 2 < getD (replicate n 144) k 0 → 143 < getD (replicate n 144) k 0
-graded-marks zero k h = absurd (omega (arith, h))
-graded-marks (suc n) zero h = omega arith
-graded-marks (suc n) (suc k) h = graded-marks n k h
+fresh-marks : (n k : ℕ) → 2 < getD (replicate n 144) k 0 → _≡_ {A = ℕ} (getD (replicate n 144) k 0) 144
+fresh-marks zero k h = absurd (omega (arith, h))
+fresh-marks (suc n) zero h = refl
+fresh-marks (suc n) (suc k) h = fresh-marks n k h
 
 module _ (nodes : List ℕ) (count : ℕ) (assignment : List ℕ) (n : ℕ) (old : List ℕ) (room : count * 9 ≤ length nodes) (marks : old ≡ replicate n 144) (stored : count ≤ n) (small : some (ltb 2) assignment ≡ false) where
   -- a store of marks takes an assignment
@@ -49,7 +49,7 @@ module _ (nodes : List ℕ) (count : ℕ) (assignment : List ℕ) (n : ℕ) (old
         room = room;
         stored = omega (arith, ap length marks, length-replicate {A = ℕ} n 144, stored);
         marks = λ k h. subst (λ (v : ℕ). 2 < v) (sym (ap (λ (l : List ℕ). getD l k 0) marks ∙ getD-replicate n k 144 0 (omega (arith, h, stored)))) (omega arith);
-        graded = λ k. subst (λ (l : List ℕ). 2 < getD l k 0 → 143 < getD l k 0) (sym marks) (graded-marks n k);
+        fresh = λ k. subst (λ (l : List ℕ). 2 < getD l k 0 → _≡_ {A = ℕ} (getD l k 0) 144) (sym marks) (fresh-marks n k);
         small = λ i. omega (arith, assigned-below 2 assignment small i);
       }
 

@@ -31,7 +31,7 @@ use Rattle.cells.proofs.Rule.{entry-bit}
 use Rattle.runs.specs.Values.{signalValue, answerOf, valuesFrom, outputsFrom, storageValues, storageOutputs}
 use Rattle.runs.specs.Runs.{putIn, step}
 use Rattle.runs.specs.Fit.{Accepted}
-use Rattle.runs.specs.Steps.{marked, Steppable, Turn, Stepped, Standing}
+use Rattle.runs.specs.Steps.{marked, Plain, Steppable, Turn, Stepped, Standing}
 use Rattle.runs.proofs.Storage.{wires-below, put-stay}
 use Rattle.runs.proofs.Along.{Right, step-right, start-right}
 use Rattle.runs.proofs.Turns.{accepted-at}
@@ -229,11 +229,21 @@ next-turn nodes count ok assignment order i h s st f =
     ready-turn nodes count ok assignment (take i order) s st (getD order i 0)
     (and-true (ready g (take i order) (getD order i 0)) (fit g (take (i + 1) order) (drop (i + 1) order)) (sym (list-turn g order i h) ∙ f) .0)
 
--- a step keeps the marks great
+-- a step keeps the marks great, and what they note
 pub steppable-next : (nodes : List ℕ) (count : ℕ) (s : List ℕ) (x : ℕ) (after : List ℕ) → Steppable nodes count s → x < count → Turn nodes s x → Stepped nodes x s after → Steppable nodes count after
 steppable-next nodes count s x after p h t e =
-    record { room = p .room; stored = omega (arith, p .stored, ap length (e .stored), length-set s x (answerOf s (nodeAt nodes x))); graded = at }
+    record { room = p .room; stored = omega (arith, p .stored, ap length (e .stored), length-set s x (answerOf s (nodeAt nodes x))); graded = at; noted = note }
   where
+    note : (k : ℕ) → getD after k 0 ≡ 145 → Plain nodes k
+    note k m = go (eqb k x) refl
+      where
+        go : (b : Bool) → eqb k x ≡ b → Plain nodes k
+        go true q =
+            let v : getD after k 0 ≡ answerOf s (nodeAt nodes x) = ap (λ (l : List ℕ). getD l k 0) (e .stored) ∙ ap (λ (i : ℕ). getD (set s x (answerOf s (nodeAt nodes x))) i 0) (eqb-true k x q)
+            ∙ getD-set-same s x (answerOf s (nodeAt nodes x)) 0 (omega (arith, h, p .stored)) in
+            absurd (omega (arith, v, e .answered, m))
+        go false q = p .noted k (sym (ap (λ (l : List ℕ). getD l k 0) (e .stored) ∙ getD-set-other s x k (answerOf s (nodeAt nodes x)) 0 (eqb-false k x q)) ∙ m)
+
     at : (k : ℕ) → 2 < getD after k 0 → 143 < getD after k 0
     at k m = go (eqb k x) refl
       where

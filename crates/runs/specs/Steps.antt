@@ -3,19 +3,19 @@
 use mathlib.Core.Path.{_≡_}
 use mathlib.Core.List.{List}
 use mathlib.Core.Bool.{Bool, true, false}
-use Prim.Native.Nat.{ℕ, _+_, _*_, _<_, _≤_}
+use Prim.Native.Nat.{ℕ, _+_, _-_, _*_, _<_, _≤_}
 use lib.Dec.{ltb}
-use lib.ListN.{length, getD, set}
+use lib.ListN.{length, getD, set, take, drop}
 use Rattle.laws.specs.Lists.{some}
 use Rattle.circuit.specs.declared.records.BoolWire.{BoolWire}
 use Rattle.circuit.specs.declared.records.BoolNode.{BoolNode}
-use Rattle.circuit.specs.Records.{nodeAt, isCellNode, wiresOf}
+use Rattle.circuit.specs.Records.{nodeAt, nodesOf, isCellNode, wiresOf}
 use Rattle.circuit.specs.Check.{nodeBroken}
-use Rattle.circuit.specs.Graph.{graphOf, waits}
+use Rattle.circuit.specs.Graph.{graphOf, waits, fit}
 use Rattle.cells.specs.Cells.{AnswerTable}
 use Rattle.runs.specs.Values.{signalValue, answerOf, storageValues}
 use Rattle.runs.specs.Fit.{Accepted}
-use Rattle.runs.specs.Work.{markCount, Graded}
+use Rattle.runs.specs.Work.{markCount, Graded, BothEarlier}
 
 -- the wire is of a cell that waits
 abbrev pub marked : List ℕ → BoolWire → Bool
@@ -33,21 +33,24 @@ pub record PlaceOf (x : ℕ) (n : BoolNode) (values : List ℕ) (r : ℕ) : Type
   pub answer : r < 144 → (answers : List ℕ) → AnswerTable answers → getD answers r 0 ≡ answerOf values n
   pub missed : 144 ≤ r → Ready x n values → ⊥
 
--- records and a store for so many nodes
+-- a cell that breaks no rule, with two wires, both of earlier nodes
+pub record Plain (nodes : List ℕ) (x : ℕ) : Type 0 where
+  pub kind : nodeAt nodes x .kind ≡ 2
+  pub count : nodeAt nodes x .count ≡ 2
+  pub table : nodeAt nodes x .table < 16
+  pub earlier : BothEarlier nodes x
+
+-- records and a store for so many nodes; a mark of 145 notes that its cell is plain
 pub record Steppable (nodes : List ℕ) (count : ℕ) (values : List ℕ) : Type 0 where
   pub room : count * 9 ≤ length nodes
   pub stored : count ≤ length values
   pub graded : Graded values
+  pub noted : (k : ℕ) → getD values k 0 ≡ 145 → Plain nodes k
 
 -- node x may be worked out: it is marked and ready
 pub record Turn (nodes values : List ℕ) (x : ℕ) : Type 0 where
   pub waiting : 2 < getD values x 0
   pub ready : Ready x (nodeAt nodes x) values
-
--- a lead over so many nodes: it passes node x, unless the circuit check refuses the nodes
-pub record LeadOf (nodes : List ℕ) (count x lead : ℕ) : Type 0 where
-  pub inside : lead ≤ count
-  pub short : x < count → lead ≤ x → Accepted nodes count → ⊥
 
 -- "Each entry is one step call, proved to store that cell's answer and to change no other value"
 pub record Stepped (nodes : List ℕ) (x : ℕ) (values after : List ℕ) : Type 0 where
@@ -65,3 +68,21 @@ pub record Standing (ns : List BoolNode) (assignment taken values : List ℕ) : 
   pub right : (k : ℕ) → k < length ns → waits (graphOf ns) taken k ≡ false → getD values k 0 ≡ getD (storageValues ns assignment) k 0
   pub waiting : (k : ℕ) → k < length ns → waits (graphOf ns) taken k ≡ true → 2 < getD values k 0
   pub small : (k : ℕ) → getD (storageValues ns assignment) k 0 < 3
+
+-- the same values and marks, of which some note more
+pub record Remarked (nodes : List ℕ) (count : ℕ) (values after : List ℕ) : Type 0 where
+  pub steppable : Steppable nodes count after
+  pub kept : (k : ℕ) → getD values k 0 < 3 → getD after k 0 ≡ getD values k 0
+  pub marked : (k : ℕ) → 2 < getD values k 0 → 2 < getD after k 0
+
+-- what is left of a list from one place on is fit
+abbrev pub fitFrom : List ℕ → ℕ → List ℕ → ℕ → Bool
+fitFrom nodes count order i = fit (graphOf (nodesOf nodes count)) (take i order) (drop i order)
+
+-- what the steps from one place of a list up to another leave; where they stop, the list is not fit
+pub record Through (nodes : List ℕ) (count : ℕ) (order : List ℕ) (from end : ℕ) (values : List ℕ) (r : Bool) (after : List ℕ) : Type 0 where
+  pub steppable : r ≡ true → Steppable nodes count after
+  pub unmarked : r ≡ true → Unmarked nodes count (end - from) values after
+  pub standing : r ≡ true → (assignment : List ℕ) → Accepted nodes count → Standing (nodesOf nodes count) assignment (take from order) values → Standing (nodesOf nodes count) assignment (take end order) after
+  pub passed : r ≡ true → (assignment : List ℕ) → Accepted nodes count → Standing (nodesOf nodes count) assignment (take from order) values → fitFrom nodes count order from ≡ fitFrom nodes count order end
+  pub stopped : r ≡ false → (assignment : List ℕ) → Accepted nodes count → Standing (nodesOf nodes count) assignment (take from order) values → fitFrom nodes count order from ≡ true → ⊥

@@ -1,70 +1,85 @@
-// The records ahead of a run's steps, looked at in storage order for their kinds (15).
-// A list's order jumps between records that no cache holds; a pass in storage order a little ahead has them fetched in sequence.
+// The records that a block of a list reaches, looked at in storage order before its steps.
+// A list jumps between records that no cache holds; a pass in storage order has them fetched in sequence, and notes of which cells a step need not check the record again.
 ghost use mathlib.Core.Path.{_≡_};
-ghost use mathlib.Core.Bool.{false};
-ghost use Prim.Native.Nat.{ℕ, _*_, _<_, _≤_};
+ghost use mathlib.Core.Bool.{true};
+ghost use Prim.Native.Nat.{_+_, _*_, _<_, _≤_};
 ghost use lib.ListN.{length};
-ghost use Rattle.runs.specs.Fit.{Accepted};
-ghost use Rattle.runs.specs.Steps.{LeadOf};
+ghost use Rattle.runs.specs.Steps.{Plain, Steppable, Remarked};
+use crate::values::both_earlier;
 
-// How many nodes count as looked at before the first step: all where their records fit a cache, else none.
-pub fn first_lead(count: usize) -> usize
+// Where a block ends that starts at a place of a list: 2,048 entries on, or at the last.
+pub fn block_end(from: usize, entries: usize) -> usize
+    requires { ⌜ from < entries ⌝ }
+    ensures { λ r. ⌜ (from < r) × (r ≤ entries) ⌝ }
+{
+    if entries - from <= 2048 {
+        return entries;
+    }
+    from + 2048
+}
+
+// The lead, or a number past node x if that is greater.
+pub fn further(lead: usize, x: usize, count: usize) -> usize
+    requires { ⌜ lead ≤ count ⌝ }
     ensures { λ r. ⌜ r ≤ count ⌝ }
-{
-    if count <= 16384 {
-        return count;
-    }
-    0
-}
-
-// An input's kind or a cell's.
-pub fn known_kind(kind: usize) -> bool
-    ensures { λ r. ⌜ (r ≡ false → (kind ≡ 1 → ⊥) × (kind ≡ 2 → ⊥)) ⌝ }
-{
-    if kind == 1 {
-        return true;
-    }
-    kind == 2
-}
-
-// No record from `from` up to `end` has an unknown kind.
-pub fn known_kinds(nodes: &[usize], from: usize, end: usize) -> bool
-    requires { ⌜ end * 9 ≤ length (now nodes) ⌝ }
-    ensures { λ r. ⌜ (r ≡ false → (count : ℕ) → end ≤ count → Accepted (now (nodes .entry)) count → ⊥) ⌝ }
-{
-    for k in from..end {
-        if known_kind(nodes[k * 9]) {} else {
-            return false;
-        }
-    }
-    true
-}
-
-// Where a look past node x ends: 256 nodes on, or at the last.
-pub fn look_end(count: usize, x: usize) -> usize
-    requires { ⌜ x < count ⌝ }
-    ensures { λ r. ⌜ (x < r) × (r ≤ count) ⌝ }
-{
-    if count - x <= 256 {
-        return count;
-    }
-    x + 256
-}
-
-// The nodes below the lead were looked at; if x is not among them, those up to some way past it are. 0 where a kind is unknown or x is no node.
-pub fn look_ahead(nodes: &[usize], count: usize, lead: usize, x: usize) -> usize
-    requires { ⌜ (count * 9 ≤ length (now nodes)) × (lead ≤ count) ⌝ }
-    ensures { λ r. ⌜ LeadOf (now (nodes .entry)) count x r ⌝ }
 {
     if x < lead {
         return lead;
     }
-    if count <= x {
-        return 0;
+    if x < count {
+        return x + 1;
     }
-    let end = look_end(count, x);
-    if known_kinds(nodes, lead, end) {
-        return end;
+    lead
+}
+
+// A number past the nodes that a block names, by a look at one entry of eight; the lead where that is greater.
+pub fn front(order: &[usize], from: usize, end: usize, count: usize, lead: usize) -> usize
+    requires { ⌜ (from ≤ end) × (end ≤ length (now order)) × (lead ≤ count) ⌝ }
+    ensures { λ r. ⌜ r ≤ count ⌝ }
+{
+    let mut top = lead;
+    for i in 0..(end - from) / 8 {
+        top = further(top, order[from + 8 * i], count);
     }
-    0
+    top
+}
+
+// Record k is that of a plain cell.
+pub fn is_plain(nodes: &[usize], k: usize) -> bool
+    requires { ⌜ k * 9 + 9 ≤ length (now nodes) ⌝ }
+    ensures { λ r. ⌜ (r ≡ true → Plain (now (nodes .entry)) k) ⌝ }
+{
+    let at = k * 9;
+    if nodes[at] == 2 {
+        if nodes[at + 1] == 2 {
+            if nodes[at + 2] < 16 {
+                return both_earlier(nodes, k);
+            }
+        }
+    }
+    false
+}
+
+// Node k gets the mark of a plain cell, if it is one that waits.
+pub fn note_plain(nodes: &[usize], count: usize, k: usize, values: &mut [u8])
+    requires { ⌜ Steppable (now nodes) count (now values) × (k < count) ⌝ }
+    ensures { λ _. ⌜ Remarked (now (nodes .entry)) count (now (values .entry)) (now (values .exit)) ⌝ }
+{
+    if values[k] < 3 {
+        return;
+    }
+    if is_plain(nodes, k) {
+        values[k] = 145;
+        return;
+    }
+}
+
+// The same of the nodes from one number up to another.
+pub fn mark_plain(nodes: &[usize], count: usize, from: usize, end: usize, values: &mut [u8])
+    requires { ⌜ Steppable (now nodes) count (now values) × (end ≤ count) ⌝ }
+    ensures { λ _. ⌜ Remarked (now (nodes .entry)) count (now (values .entry)) (now (values .exit)) ⌝ }
+{
+    for k in from..end {
+        note_plain(nodes, count, k, values);
+    }
 }

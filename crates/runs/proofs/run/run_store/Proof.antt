@@ -5,6 +5,7 @@ use native.Mathlib.Omega.{arith}
 use lib.ListN.{length}
 use Rattle.laws.proofs.Tests.{clash}
 use Rattle.runs.proofs.Running.{marked-puttable, store-tells}
+use Rattle.runs.proofs.Through.{steppable-fresh}
 use borrow.Author.Needs.{needs}
 use Rattle.runs.proofs.run.run_store.Statement.{statement}
 use Rattle.runs.proofs.run.run_store.Tie as tie
@@ -18,7 +19,7 @@ put-inputs-requires c κs = marked-puttable (c .before .before .before .before .
 run-steps-requires : tie.Need-run-steps-requires
 run-steps-requires c κs =
     let i = c .before .before .before .before .put-inputs .ensures .0 (c .before .if1 .taken) in
-    record { room = c .before .before .before .before .before .before .before .before .before .before .before .before .before .before .pre .0; stored = omega (arith, c .before .before .before .before .before .before .before .before .before .before .before .before .before .before .pre .1, c .before .before .before .before .put-inputs .kept .1 .1 .1 .0, c .before .before .before .before .before .before .before .before .mark-all .kept .0); graded = i .graded }
+    steppable-fresh (c .before .before .before .before .before .before .before .before .before .before .before .before .before .before .args .nodes .now) (c .before .before .before .before .before .before .before .before .before .before .before .before .before .before .args .count) _ (c .before .before .before .before .before .before .before .before .before .before .before .before .before .before .pre .0) (omega (arith, c .before .before .before .before .before .before .before .before .before .before .before .before .before .before .pre .1, c .before .before .before .before .put-inputs .kept .1 .1 .1 .0, c .before .before .before .before .before .before .before .before .mark-all .kept .0)) (i .fresh)
 
 same-length : tie.Need-same-length
 same-length c = search needs

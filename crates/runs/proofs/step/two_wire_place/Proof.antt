@@ -30,46 +30,11 @@ returns c = broken-place (c .before .before .before .before .args .x) (nodeAt (c
 both-earlier-requires : tie.Need-both-earlier-requires
 both-earlier-requires c κs = search needs
 
-add-node-value : tie.Need-add-node-value
-add-node-value c = search needs
-
-mul-node-value : tie.Need-mul-node-value
-mul-node-value c = search needs
-
-shared-slice-read-node-value : tie.Need-shared-slice-read-node-value
-shared-slice-read-node-value c = search needs
-
-node-value-requires : tie.Need-node-value-requires
-node-value-requires c κs = let t = c .before .before .both-earlier .ensures (c .before .if2 .taken) in (t .first .0, omega (arith, t .first .1, c .before .before .before .before .before .before .before .pre .1))
-
-add-node-value-2 : tie.Need-add-node-value-2
-add-node-value-2 c = search needs
-
-mul-node-value-2 : tie.Need-mul-node-value-2
-mul-node-value-2 c = search needs
-
-shared-slice-read-node-value-2 : tie.Need-shared-slice-read-node-value-2
-shared-slice-read-node-value-2 c = search needs
-
-node-value-requires-2 : tie.Need-node-value-requires-2
-node-value-requires-2 c κs = let t = c .before .before .before .before .both-earlier .ensures (c .before .before .before .if2 .taken) in (t .second .0, omega (arith, t .second .1, c .before .before .before .before .before .before .before .before .before .pre .1))
-
-mul-result : tie.Need-mul-result
-mul-result c = search needs
-
-mul-result-2 : tie.Need-mul-result-2
-mul-result-2 c = search needs
-
-add-result : tie.Need-add-result
-add-result c = search needs
-
-add-result-2 : tie.Need-add-result-2
-add-result-2 c = search needs
+plain-place-requires : tie.Need-plain-place-requires
+plain-place-requires c κs = (c .before .before .before .before .before .before .pre .0, c .before .before .before .before .before .before .pre .1, c .before .before .before .before .before .before .pre .2, record { kind = c .before .before .before .before .before .before .pre .3; count = c .before .before .before .before .before .before .pre .4; table = c .before .before .if1 .left; earlier = c .before .both-earlier .ensures (c .if2 .taken) })
 
 returns-2 : tie.Need-returns-2
-returns-2 c =
-    let t = c .before .before .before .before .before .both-earlier .ensures (c .before .before .before .before .if2 .taken) in
-    place-two (c .before .before .before .before .before .before .before .before .before .before .args .x) (nodeAt (c .before .before .before .before .before .before .before .before .before .before .args .nodes .now) (c .before .before .before .before .before .before .before .before .before .before .args .x)) (c .before .before .before .before .before .before .before .before .before .before .args .values .now) (c .before .before .before .before .before .before .before .before .before .before .pre .2) (c .before .before .before .before .before .before .before .before .before .before .pre .3) _ (c .before .before .node-value .ensures .0) (word-behind (c .before .before .before .before .before .before .before .before .before .before .args .x) (getD (c .before .before .before .before .before .before .before .before .before .before .args .nodes .now) (c .before .before .before .before .before .before .before .before .before .before .args .x * 9 + 7) 0) (t .first .1)) (c .before .before .before .before .before .before .before .before .before .before .pre .4) (c .before .before .before .before .before .before .if1 .left) _ (c .node-value2 .ensures .0) (word-behind (c .before .before .before .before .before .before .before .before .before .before .args .x) (getD (c .before .before .before .before .before .before .before .before .before .before .args .nodes .now) (c .before .before .before .before .before .before .before .before .before .before .args .x * 9 + 8) 0) (t .second .1))
+returns-2 c = search needs
 
 add-if3 : tie.Need-add-if3
 add-if3 c = search needs
@@ -125,17 +90,17 @@ shared-slice-read-wire-value-2 c = search needs
 wire-value-requires-2 : tie.Need-wire-value-requires-2
 wire-value-requires-2 c κs = below-more (c .before .before .before .before .before .before .before .before .before .before .before .before .before .args .x) (length (c .before .before .before .before .before .before .before .before .before .before .before .before .before .args .values .now)) (omega (arith, c .before .before .before .before .before .before .before .before .before .before .before .before .before .pre .1)) (wireOf (getD (c .before .before .before .before .before .before .before .before .before .before .before .before .before .args .nodes .now) (c .before .before .before .before .before .before .before .before .before .before .before .before .before .args .x * 9 + 8) 0)) (word-behind (c .before .before .before .before .before .before .before .before .before .before .before .before .before .args .x) (getD (c .before .before .before .before .before .before .before .before .before .before .before .before .before .args .nodes .now) (c .before .before .before .before .before .before .before .before .before .before .before .before .before .args .x * 9 + 8) 0) (c .before .before .before .if4 .left))
 
-mul-result-3 : tie.Need-mul-result-3
-mul-result-3 c = search needs
+mul-result : tie.Need-mul-result
+mul-result c = search needs
 
-mul-result-4 : tie.Need-mul-result-4
-mul-result-4 c = search needs
+mul-result-2 : tie.Need-mul-result-2
+mul-result-2 c = search needs
 
-add-result-3 : tie.Need-add-result-3
-add-result-3 c = search needs
+add-result : tie.Need-add-result
+add-result c = search needs
 
-add-result-4 : tie.Need-add-result-4
-add-result-4 c = search needs
+add-result-2 : tie.Need-add-result-2
+add-result-2 c = search needs
 
 returns-5 : tie.Need-returns-5
 returns-5 c =
@@ -151,18 +116,7 @@ two-wire-place-spec =
     shared-slice-read-table
     returns
     both-earlier-requires
-    add-node-value
-    mul-node-value
-    shared-slice-read-node-value
-    node-value-requires
-    add-node-value-2
-    mul-node-value-2
-    shared-slice-read-node-value-2
-    node-value-requires-2
-    mul-result
-    mul-result-2
-    add-result
-    add-result-2
+    plain-place-requires
     returns-2
     add-if3
     add-if3-2
@@ -182,8 +136,8 @@ two-wire-place-spec =
     mul-wire-value-2
     shared-slice-read-wire-value-2
     wire-value-requires-2
-    mul-result-3
-    mul-result-4
-    add-result-3
-    add-result-4
+    mul-result
+    mul-result-2
+    add-result
+    add-result-2
     returns-5)
