@@ -3,7 +3,7 @@ use crate::cases::{Cases, shown};
 use std::fmt::Write;
 
 const ROW: f64 = 17.0;
-const LEFT: f64 = 250.0;
+const LEFT: f64 = 290.0;
 const WIDTH: f64 = 520.0;
 const TOP: f64 = 56.0;
 const LEAST: f64 = 0.01;

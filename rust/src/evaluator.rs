@@ -1,7 +1,7 @@
 //! What a circuit gives: for one assignment, along an order with unknown inputs, and for numbered assignments.
 use crate::archive;
 use crate::circuit::BoolCircuit;
-use crate::records::records;
+use crate::records::{Records, records};
 use crate::refusal::Refusal;
 use std::collections::HashMap;
 
@@ -25,7 +25,8 @@ const UNKNOWN: u8 = 2;
 pub struct Evaluator {
     nodes: Vec<usize>,
     outputs: Vec<usize>,
-    inputs: usize,
+    /// The numbers of the input nodes.
+    inputs: Vec<usize>,
     assignment: Vec<u8>,
     values: Vec<u8>,
     answers: Vec<u8>,
@@ -62,7 +63,7 @@ impl Evaluator {
     /// Assignment `number` of all those of at most 20 inputs: the first input is the most significant bit.
     pub fn assignment(&mut self, number: usize) -> Result<Vec<bool>, Refusal> {
         self.assignment.clear();
-        self.assignment.resize(self.inputs, 0);
+        self.assignment.resize(self.inputs.len(), 0);
         archive::exhaustive_inputs(&self.nodes, &self.outputs, number, &mut self.assignment).map_err(Refusal::of)?;
         Ok(self.assignment.iter().map(|value| *value == 1).collect())
     }
@@ -71,11 +72,11 @@ impl Evaluator {
 impl BoolCircuit {
     /// The circuit made ready for many runs.
     pub fn evaluator(&self) -> Evaluator {
-        let (nodes, outputs) = records(self);
+        let Records { nodes, outputs, inputs } = records(self);
         Evaluator {
             nodes,
             outputs,
-            inputs: self.input_names().count(),
+            inputs,
             assignment: Vec::new(),
             values: vec![0; self.nodes.len()],
             answers: vec![0; self.outputs.len()],
@@ -85,8 +86,8 @@ impl BoolCircuit {
     }
 
     /// The values of the inputs in storage order. It ends at the first name that is missing: an assignment of a wrong length is 19.
-    fn assigned<T: Copy>(&self, inputs: &HashMap<String, T>) -> Vec<T> {
-        self.input_names().map_while(|name| inputs.get(name).copied()).collect()
+    fn assigned<T: Copy>(&self, evaluator: &Evaluator, inputs: &HashMap<String, T>) -> Vec<T> {
+        evaluator.inputs.iter().map_while(|id| inputs.get(self.nodes[*id].name()).copied()).collect()
     }
 
     fn named<T: Copy>(&self, values: &[T]) -> Vec<(String, T)> {
@@ -96,12 +97,16 @@ impl BoolCircuit {
     /// The outputs for one assignment by name. A missing input is 19. Each call makes the circuit's records: for many assignments of one
     /// circuit [`BoolCircuit::evaluator`] makes them once.
     pub fn evaluate(&self, inputs: &HashMap<String, bool>) -> Result<Vec<(String, bool)>, Refusal> {
-        Ok(self.named(self.evaluator().evaluate(&self.assigned(inputs))?))
+        let mut evaluator = self.evaluator();
+        let assignment = self.assigned(&evaluator, inputs);
+        Ok(self.named(evaluator.evaluate(&assignment)?))
     }
 
     /// The outputs along an order of all cells, with `None` for what is unknown. A missing input is 19, an unfit order 20.
     pub fn run(&self, order: &[usize], inputs: &HashMap<String, Option<bool>>) -> Result<Vec<(String, Option<bool>)>, Refusal> {
-        Ok(self.named(self.evaluator().run(order, &self.assigned(inputs))?))
+        let mut evaluator = self.evaluator();
+        let assignment = self.assigned(&evaluator, inputs);
+        Ok(self.named(evaluator.run(order, &assignment)?))
     }
 
     /// All assignments by name, for circuits of at most 20 inputs. One at a time takes less memory: [`Evaluator::assignment`].

@@ -1,7 +1,7 @@
 //! The circuit check and the order of the cells.
 use crate::archive;
 use crate::circuit::BoolCircuit;
-use crate::records::records;
+use crate::records::{Records, records};
 use crate::refusal::Refusal;
 
 /// Keys as three 32-bit numbers for each node, in the same order as the given ones; only the cells' are looked at.
@@ -28,7 +28,7 @@ fn packed_keys(circuit: &BoolCircuit, mut key: impl FnMut(usize) -> (usize, usiz
 impl BoolCircuit {
     /// Whether the circuit obeys the circuit rules (15) and every node reads earlier ones alone (16).
     pub fn validate_topological(&self) -> Result<(), Refusal> {
-        let (nodes, outputs) = records(self);
+        let Records { nodes, outputs, .. } = records(self);
         archive::validate_topological(&nodes, &outputs).map_err(Refusal::of)
     }
 
@@ -38,7 +38,7 @@ impl BoolCircuit {
     where
         F: FnMut(usize) -> (usize, usize, usize),
     {
-        let (nodes, outputs) = records(self);
+        let Records { nodes, outputs, .. } = records(self);
         let keys = packed_keys(self, key);
         let count = self.nodes.len();
         let (mut ready, mut successors, mut order) = (vec![0; 3 * count], vec![0; 2 * count + 1], vec![0; count]);

@@ -38,20 +38,28 @@ fn packed(wires: usize, table: &[u8]) -> usize {
     }
 }
 
-/// The records of a circuit's nodes and outputs. Names are left out: no call on records looks at them.
-pub fn records(circuit: &BoolCircuit) -> (Vec<usize>, Vec<usize>) {
-    let mut nodes = Vec::with_capacity(NODE_WORDS * circuit.nodes.len());
-    for (id, node) in circuit.nodes.iter().enumerate() {
-        nodes.extend_from_slice(&match node {
-            BoolNode::Input { .. } => [INPUT, 0, 0, NUMBER, id, 0, 0, 0, 0],
-            BoolNode::Lut { inputs, table, .. } => {
-                let wire = |at: usize| inputs.get(at).map_or(0, |wire| wire_word(*wire));
-                [CELL, inputs.len(), packed(inputs.len(), table), NUMBER, id, 0, 0, wire(0), wire(1)]
-            }
-        });
-    }
-    let outputs = circuit.outputs.iter().enumerate().flat_map(|(place, (_, wire))| [NUMBER, place, 0, 0, wire_word(*wire)]).collect();
-    (nodes, outputs)
+/// The records of a circuit's nodes and outputs, and the numbers of its input nodes. Names are left out: no call on records looks at them.
+pub struct Records {
+    pub nodes: Vec<usize>,
+    pub outputs: Vec<usize>,
+    pub inputs: Vec<usize>,
+}
+
+pub fn records(circuit: &BoolCircuit) -> Records {
+    let mut numbers = Vec::new();
+    let record = |(id, node): (usize, &BoolNode)| match node {
+        BoolNode::Input { .. } => {
+            numbers.push(id);
+            [INPUT, 0, 0, NUMBER, id, 0, 0, 0, 0]
+        }
+        BoolNode::Lut { inputs, table, .. } => {
+            let wire = |at: usize| inputs.get(at).map_or(0, |wire| wire_word(*wire));
+            [CELL, inputs.len(), packed(inputs.len(), table), NUMBER, id, 0, 0, wire(0), wire(1)]
+        }
+    };
+    let nodes: Vec<[usize; NODE_WORDS]> = circuit.nodes.iter().enumerate().map(record).collect();
+    let outputs: Vec<_> = circuit.outputs.iter().enumerate().map(|(place, (_, wire))| [NUMBER, place, 0, 0, wire_word(*wire)]).collect();
+    Records { nodes: nodes.into_flattened(), outputs: outputs.into_flattened(), inputs: numbers }
 }
 
 /// A name's text; `letter` goes before a Bristol wire number.

@@ -21,6 +21,12 @@ pub record RanThenEvaluated (nodes outputs order assignment old answers evaluate
   pub run-outputs : answers' ≡ runCall nodes outputs order assignment old answers .outputs
   pub evaluates : evaluatedResult (r .evaluated) values' evaluated' ≡ evaluateCall nodes outputs assignment old evaluated
 
+-- "The .. ready and successor areas and the value store are work areas, zero after any call"
+pub record Cleared (ready successors values : ℕ) (ready' successors' values' : List ℕ) : Type 0 where
+  pub ready-is : ready' ≡ replicate ready 0
+  pub successors-are : successors' ≡ replicate successors 0
+  pub values-are : values' ≡ replicate values 0
+
 -- what the code answers and leaves, for a circuit that a reader gave
 pub record Carried (c : Circuit) (window : ℕ) (keys assignment old : List ℕ) (ready successors order answers evaluated : ℕ) (r : Both) (order' values' answers' evaluated' : List ℕ) : Type 0 where
   -- demand 3 over the definitions

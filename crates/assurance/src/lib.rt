@@ -1,9 +1,9 @@
 // Demand 3, carried by the code: the order, the run along it and `evaluate`, on lent areas.
 ghost use mathlib.Core.Path.{_≡_};
 ghost use Prim.Native.Nat.{_*_, _≤_, _<_};
-ghost use lib.ListN.{length, take};
+ghost use lib.ListN.{length, take, replicate};
 ghost use Rattle.circuit.specs.declared.refusals.Refusal.the-variants.{UnfitOrder};
-ghost use Rattle.assurance.specs.Carried.{RanThenEvaluated, Carries};
+ghost use Rattle.assurance.specs.Carried.{RanThenEvaluated, Cleared, Carries};
 ghost use Rattle.assurance.specs.Refused.{RefusedRun, RefusedBoth, RefusesUnordered, RefusesRead};
 use circuit::areas::clear_bytes;
 use circuit::refusals::Refusal;
@@ -53,6 +53,7 @@ pub fn run_ordered(
 ) -> Both
     ensures { λ r. ⌜ (cells ≤ length (now (order .entry)) → RanThenEvaluated (now (nodes .entry)) (now (outputs .entry)) (take cells (now (order .entry))) (now (assignment .entry)) (now (values .entry)) (now (answers .entry)) (now (evaluated .entry)) r (now (values .exit)) (now (answers .exit)) (now (evaluated .exit))) ⌝ }
     ensures { λ r. ⌜ (length (now (order .entry)) < cells → RefusedRun UnfitOrder (length (now (values .entry))) (length (now (answers .entry))) (length (now (evaluated .entry))) r (now (values .exit)) (now (answers .exit)) (now (evaluated .exit))) ⌝ }
+    ensures { λ r. ⌜ now (values .exit) ≡ replicate (length (now (values .entry))) 0 ⌝ }
 {
     if order.len() < cells {
         return refuse_run(Refusal::UnfitOrder, values, answers, evaluated);
@@ -114,6 +115,7 @@ pub fn order_and_run(
 ) -> Both
     ensures { λ r. ⌜ Carries (now (nodes .entry)) (now (outputs .entry)) window (now (keys .entry)) (now (assignment .entry)) (now (values .entry)) (length (now (ready .entry))) (length (now (successors .entry))) (length (now (order .entry))) (length (now (answers .entry))) (length (now (evaluated .entry))) r (now (order .exit)) (now (values .exit)) (now (answers .exit)) (now (evaluated .exit)) ⌝ }
     ensures { λ r. ⌜ (RefusesUnordered (now (nodes .entry)) (now (outputs .entry)) window (now (keys .entry)) (length (now (ready .entry))) (length (now (successors .entry))) (length (now (order .entry))) (length (now (values .entry))) (length (now (answers .entry))) (length (now (evaluated .entry))) r (now (ready .exit)) (now (successors .exit)) (now (order .exit)) (now (values .exit)) (now (answers .exit)) (now (evaluated .exit))) ⌝ }
+    ensures { λ r. ⌜ Cleared (length (now (ready .entry))) (length (now (successors .entry))) (length (now (values .entry))) (now (ready .exit)) (now (successors .exit)) (now (values .exit)) ⌝ }
 {
     let ordered = scheduled_gates_by_key(nodes, outputs, window, keys, ready, successors, order);
     match ordered {
@@ -149,6 +151,7 @@ pub fn run_read(
 ) -> Both
     ensures { λ r. ⌜ («node_count» * 9 ≤ length (now (nodes .entry)) → «output_count» * 5 ≤ length (now (outputs .entry)) → Carries (take («node_count» * 9) (now (nodes .entry))) (take («output_count» * 5) (now (outputs .entry))) window (now (keys .entry)) (now (assignment .entry)) (now (values .entry)) (length (now (ready .entry))) (length (now (successors .entry))) (length (now (order .entry))) (length (now (answers .entry))) (length (now (evaluated .entry))) r (now (order .exit)) (now (values .exit)) (now (answers .exit)) (now (evaluated .exit))) ⌝ }
     ensures { λ r. ⌜ RefusesRead (now (nodes .entry)) «node_count» (now (outputs .entry)) «output_count» window (now (keys .entry)) (length (now (ready .entry))) (length (now (successors .entry))) (length (now (order .entry))) (length (now (values .entry))) (length (now (answers .entry))) (length (now (evaluated .entry))) r (now (ready .exit)) (now (successors .exit)) (now (order .exit)) (now (values .exit)) (now (answers .exit)) (now (evaluated .exit)) ⌝ }
+    ensures { λ r. ⌜ Cleared (length (now (ready .entry))) (length (now (successors .entry))) (length (now (values .entry))) (now (ready .exit)) (now (successors .exit)) (now (values .exit)) ⌝ }
 {
     if nodes.len() / 9 < node_count {
         return refuse_both(

@@ -3,6 +3,7 @@ ghost use mathlib.Core.Path.{_≡_};
 ghost use lib.ListN.{length};
 ghost use Rattle.bristol.specs.Bristol.{bristol, bristolCircuit};
 ghost use Rattle.bristol.specs.Contracts.{Leaves};
+ghost use Rattle.assurance.specs.Carried.{Cleared};
 ghost use Rattle.assured.specs.Assured.{Assures, Refuses};
 use assurance::Both;
 use assurance::refuse_both;
@@ -28,6 +29,7 @@ pub fn assured_bristol(
     ensures { λ r. ⌜ Leaves (bristol (now (text .entry)) (length (now (nodes .entry))) (length (now (outputs .entry))) (length (now (wires .entry)))) (bristol (now (text .entry)) (length (now (nodes .entry))) (length (now (outputs .entry))) (length (now (wires .entry))) .answer) (now (nodes .exit)) (now (outputs .exit)) (now (wires .exit)) ⌝ }
     ensures { λ r. ⌜ Assures (bristolCircuit (now (text .entry)) (length (now (nodes .entry))) (length (now (outputs .entry))) (length (now (wires .entry)))) window (now (keys .entry)) (now (assignment .entry)) (now (values .entry)) (length (now (ready .entry))) (length (now (successors .entry))) (length (now (order .entry))) (length (now (answers .entry))) (length (now (evaluated .entry))) r (now (order .exit)) (now (values .exit)) (now (answers .exit)) (now (evaluated .exit)) ⌝ }
     ensures { λ r. ⌜ Refuses (bristolCircuit (now (text .entry)) (length (now (nodes .entry))) (length (now (outputs .entry))) (length (now (wires .entry)))) window (now (keys .entry)) (length (now (ready .entry))) (length (now (successors .entry))) (length (now (order .entry))) (length (now (values .entry))) (length (now (answers .entry))) (length (now (evaluated .entry))) r (now (ready .exit)) (now (successors .exit)) (now (order .exit)) (now (values .exit)) (now (answers .exit)) (now (evaluated .exit)) ⌝ }
+    ensures { λ r. ⌜ Cleared (length (now (ready .entry))) (length (now (successors .entry))) (length (now (values .entry))) (now (ready .exit)) (now (successors .exit)) (now (values .exit)) ⌝ }
 {
     let read = parse_bristol(text, nodes, outputs, wires);
     match read {
