@@ -1,26 +1,18 @@
 -- Demand 3, proved over the definitions for every circuit that the circuit check accepts.
 -- Assumes nothing.
-use Prim.Native.Nat.{ℕ, zero, suc, _+_, _-_, _*_, _/_, _%_, _≤_, _<_}
-use mathlib.Core.Path.{_≡_, refl, sym, ap, ap₂, _∙_, subst}
-use mathlib.Core.Bool.{Bool, true, false, not, _&&_, _||_}
-use mathlib.Core.List.{List, [], _∷_, _++_, map, append-nil}
+use Prim.Native.Nat.{ℕ, _+_, _-_, _*_, _/_}
+use mathlib.Core.Path.{_≡_, sym, ap, _∙_}
+use mathlib.Core.Bool.{true, false}
+use mathlib.Core.List.{List, [], map, append-nil}
 use native.Mathlib.Omega.{arith}
-use lib.Dec.{eqb, leb, ltb}
 use borrow.Author.Tests.{eq-eqb, ne-eqb, le-leb}
-use lib.ListN.{length, getD}
-use Rattle.laws.specs.Areas.{encodes}
+use lib.ListN.{length}
 use Rattle.laws.proofs.Areas.{length-encodes}
-use Rattle.laws.proofs.Tests.{and-makes}
-use Rattle.circuit.specs.declared.refusals.Refusal.the-variants.{Broken, WrongValues, UnfitOrder, NoWindow, NoRoom}
-use Rattle.circuit.specs.declared.refusals.Checked.{Checked}
 use Rattle.circuit.specs.declared.refusals.Checked.the-variants.{Sound}
-use Rattle.circuit.specs.declared.records.BoolNode.{BoolNode}
-use Rattle.circuit.specs.declared.records.BoolWire.{BoolWire}
 use Rattle.circuit.specs.declared.records.Output.{Output}
-use Rattle.circuit.specs.Refusals.{refuseIf, firstFault}
-use Rattle.circuit.specs.Records.{encodeNode, encodeOutput, nodesOf, outputsOf as outputsIn, outputWires}
-use Rattle.circuit.specs.Check.{whole, nodesIn, wiresIn, checkCircuit, topologicalFault, recordsFault}
-use Rattle.circuit.specs.Graph.{Vertex, cellsOf, graphOf, fit, fitList, InOrder, ListsAll}
+use Rattle.circuit.specs.Records.{encodeNode, encodeOutput, nodesOf, outputWires}
+use Rattle.circuit.specs.Check.{nodesIn, wiresIn, checkCircuit, topologicalFault}
+use Rattle.circuit.specs.Graph.{Vertex, cellsOf, graphOf, fitList, InOrder, ListsAll}
 use Rattle.circuit.specs.Circuits.{Circuit}
 use Rattle.circuit.proofs.Codes.{node-wide, output-wide, nodes-of-area, outputs-of-area, wires-of-outputs}
 use Rattle.circuit.proofs.Checks.{is-whole, circuit-sound}
@@ -29,14 +21,13 @@ use Rattle.schedule.specs.Call.{graphIn, orderIn, room, callFault, scheduleFaul
 use Rattle.schedule.specs.Promises.{Promised}
 use Rattle.schedule.proofs.Order.{schedule-fit}
 use Rattle.schedule.proofs.Theorems.{validated-records, promised}
-use Rattle.runs.specs.Values.{storageOutputs, evaluated}
-use Rattle.runs.specs.Runs.{runOutputs, wrongAssignment}
+use Rattle.runs.specs.Runs.{wrongAssignment}
 use Rattle.runs.specs.Calls.{assignmentFault, orderFault, roomFault, runFault, evaluateFault}
 use Rattle.runs.proofs.Storage.{monotone, evaluate-same}
 use Rattle.runs.proofs.Along.{along}
 use Rattle.runs.proofs.Evaluating.{assigned-bits}
 use Rattle.runs.proofs.Calls.{assigned, has-room}
-use Rattle.assurance.specs.Assurance.{wiresOut, nodeRecords, outputRecords, orderOf, outputsOf, Agrees, Lent, Assured}
+use Rattle.assurance.specs.Assurance.{wiresOut, nodeRecords, outputRecords, orderOf, Lent, Assured}
 
 -- ---- the records of a circuit, as areas
 

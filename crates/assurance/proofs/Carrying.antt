@@ -1,33 +1,29 @@
 -- What the composed call answers and leaves, from the contracts of the calls under it.
 -- Assumes nothing.
-use Prim.Native.Nat.{ℕ, zero, suc, _+_, _-_, _*_, _/_, _≤_, _<_}
+use Prim.Native.Nat.{ℕ, _-_, _≤_}
 use mathlib.Core.Path.{_≡_, refl, sym, ap, ap₂, _∙_, subst}
-use mathlib.Core.Bool.{Bool, true, false}
-use mathlib.Core.List.{List, [], _∷_, _++_}
+use mathlib.Core.Bool.{false}
+use mathlib.Core.List.{List, []}
 use native.Mathlib.Omega.{arith}
 use lib.ListN.{length, take, replicate, length-append}
 use lib.Seq.{take-at}
 use Rattle.circuit.specs.declared.refusals.Refusal.{Refusal}
-use Rattle.circuit.specs.declared.refusals.Checked.{Checked}
 use Rattle.circuit.specs.declared.refusals.Checked.the-variants.{Sound}
-use Rattle.circuit.specs.declared.records.BoolNode.{BoolNode}
-use Rattle.circuit.specs.declared.records.BoolWire.{BoolWire}
-use Rattle.circuit.specs.Check.{nodesIn, wiresIn, checkCircuit}
-use Rattle.circuit.specs.Graph.{Vertex, cellsOf, graphOf}
+use Rattle.circuit.specs.Check.{checkCircuit}
+use Rattle.circuit.specs.Graph.{cellsOf, graphOf}
 use Rattle.circuit.specs.Circuits.{Circuit, filled}
 use Rattle.schedule.specs.declared.Ordered.{Ordered}
 use Rattle.schedule.specs.declared.Ordered.the-variants.{Cells, Refused as Unordered}
-use Rattle.schedule.specs.Call.{Left, leaves, scheduleCall, leftBy}
+use Rattle.schedule.specs.Call.{Left, leaves, scheduleCall}
 use Rattle.runs.specs.declared.run.Ran.{Ran}
 use Rattle.runs.specs.declared.run.Ran.the-variants.{Cells as RanCells, Refused as NotRun}
-use Rattle.runs.specs.declared.evaluate.Evaluated.{Evaluated}
 use Rattle.runs.specs.Values.{evaluated}
-use Rattle.runs.specs.Runs.{runOutputs, wrongAssignment}
+use Rattle.runs.specs.Runs.{wrongAssignment}
 use Rattle.runs.specs.Calls.{Result, leaves as resultOf, ranResult, evaluatedResult, runCall, evaluateCall}
 use Rattle.assurance.specs.declared.Both.{Both}
 use Rattle.assurance.specs.Assurance.{wiresOut, nodeRecords, outputRecords, orderOf, outputsOf, Lent, Assured}
 use Rattle.assurance.specs.Carried.{RanThenEvaluated, Carried}
-use Rattle.assurance.proofs.Assuring.{node-count, output-count, nodes-in, wires-in, graph-in, order-in, accepted, number, assured}
+use Rattle.assurance.proofs.Assuring.{output-count, nodes-in, wires-in, graph-in, order-in, accepted, number, assured}
 
 -- ---- the run, then `evaluate`
 

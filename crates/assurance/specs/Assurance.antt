@@ -1,17 +1,17 @@
 -- Demand 3, for a circuit that a reader gave: what the schedule, the run and `evaluate` then do.
 -- Assumes nothing.
-use Prim.Native.Nat.{ℕ, suc, _+_, _-_, _*_, _≤_, _<_}
+use Prim.Native.Nat.{ℕ, _+_, _-_, _*_, _≤_, _<_}
 use mathlib.Core.Path.{_≡_}
 use mathlib.Core.Bool.{false}
-use mathlib.Core.List.{List, [], _++_, map}
-use lib.ListN.{length, getD, take, replicate}
+use mathlib.Core.List.{List, map}
+use lib.ListN.{length, getD}
 use Rattle.laws.specs.Areas.{encodes}
 use Rattle.circuit.specs.declared.refusals.Checked.the-variants.{Sound}
 use Rattle.circuit.specs.declared.records.BoolWire.{BoolWire}
 use Rattle.circuit.specs.declared.records.Output.{Output}
 use Rattle.circuit.specs.Records.{encodeNode, encodeOutput}
 use Rattle.circuit.specs.Check.{checkCircuit}
-use Rattle.circuit.specs.Graph.{cellsOf, graphOf, InOrder, ListsAll}
+use Rattle.circuit.specs.Graph.{graphOf, InOrder, ListsAll}
 use Rattle.circuit.specs.Circuits.{Circuit}
 use Rattle.schedule.specs.Schedule.{keyAt, scheduleOf}
 use Rattle.schedule.specs.Call.{scheduleFault}

@@ -4,13 +4,13 @@ use Prim.Native.Nat.{ℕ, _≤_}
 use mathlib.Core.Path.{_≡_}
 use mathlib.Core.Bool.{false}
 use mathlib.Core.List.{List, []}
-use lib.ListN.{length, take, replicate}
+use lib.ListN.{length, replicate}
 use Rattle.circuit.specs.declared.refusals.Checked.the-variants.{Sound}
 use Rattle.circuit.specs.Check.{checkCircuit}
 use Rattle.circuit.specs.Graph.{cellsOf, graphOf}
 use Rattle.circuit.specs.Circuits.{Circuit, filled}
 use Rattle.runs.specs.Runs.{wrongAssignment}
-use Rattle.runs.specs.Calls.{Result, ranResult, evaluatedResult, runCall, evaluateCall}
+use Rattle.runs.specs.Calls.{ranResult, evaluatedResult, runCall, evaluateCall}
 use Rattle.assurance.specs.declared.Both.{Both}
 use Rattle.assurance.specs.Assurance.{wiresOut, nodeRecords, outputRecords, orderOf, outputsOf, Lent, Assured}
 

@@ -1,7 +1,7 @@
 -- Every circuit that the BENCH reader accepts passes the circuit check.
 -- Assumes nothing.
-use Prim.Native.Nat.{ℕ, zero, suc, _+_, _≤_, _<_}
-use mathlib.Core.Path.{_≡_, refl, sym, ap, _∙_, subst}
+use Prim.Native.Nat.{ℕ, suc, _+_, _≤_, _<_}
+use mathlib.Core.Path.{_≡_, refl, ap, subst}
 use mathlib.Core.Bool.{Bool, true, false, cond}
 use mathlib.Core.List.{List, [], _∷_}
 use native.Mathlib.Omega.{arith}
@@ -12,12 +12,11 @@ use Rattle.laws.proofs.Stretches.{all-map}
 use Rattle.circuit.specs.declared.refusals.Checked.the-variants.{Sound}
 use Rattle.circuit.specs.declared.refusals.Refusal.the-variants.{Malformed}
 use Rattle.circuit.specs.declared.records.Name.{Name}
-use Rattle.circuit.specs.declared.records.BoolNode.{BoolNode}
-use Rattle.circuit.specs.Refusals.{Try, no, yes, andThen, need}
+use Rattle.circuit.specs.Refusals.{Try, no, yes, andThen}
 use Rattle.circuit.specs.Check.{checkCircuit}
 use Rattle.circuit.specs.Circuits.{Circuit}
 use Rattle.circuit.proofs.Tries.{no-yes, yes-same, then-yes, need-yes, check-yes}
-use Rattle.circuit.proofs.Sitting.{Sits, AllSit, word-below, one-sits, two-sits}
+use Rattle.circuit.proofs.Sitting.{Sits, word-below, one-sits, two-sits}
 use Rattle.text.specs.Lines.{lines}
 use Rattle.text.specs.Blanks.{trimmed}
 use Rattle.text.specs.Words.{bytesOf}
@@ -26,7 +25,7 @@ use Rattle.text.specs.declared.words.Word.{Word}
 use Rattle.names.specs.Names.{Entry}
 use Rattle.names.specs.declared.Found.{Found}
 use Rattle.names.specs.declared.Found.the-variants.{At, Nothing}
-use Rattle.reading.specs.Reading.{Places, Held, State, start, find, unlessDefined, driver, addNode, addAlias, addNamed, addInput, addOutput, each, finish, placesIn, textFault}
+use Rattle.reading.specs.Reading.{Places, Held, State, start, find, unlessDefined, driver, addNode, addInput, addOutput, each, finish, placesIn, textFault}
 use Rattle.reading.specs.Areas.{readText}
 use Rattle.reading.proofs.Sound.{Wired, HeldSound, start-sound, wired-more, driver-below, alias-sound, node-sits, named-sound, input-sound, each-keeps, wiresOut, finish-sound}
 use Rattle.bench_invocations.specs.Invocations.{between, parseInvocation}

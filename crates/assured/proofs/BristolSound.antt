@@ -1,11 +1,11 @@
 -- Every circuit that the Bristol reader accepts passes the circuit check; what the call leaves, by its parts.
 -- Assumes nothing.
 use Prim.Native.Nat.{ℕ}
-use mathlib.Core.Path.{_≡_, refl, _∙_}
+use mathlib.Core.Path.{_≡_, refl}
 use mathlib.Core.List.{List}
 use Rattle.circuit.specs.declared.refusals.Checked.the-variants.{Sound}
 use Rattle.circuit.specs.declared.refusals.Read.{Read}
-use Rattle.circuit.specs.Refusals.{Try, yes}
+use Rattle.circuit.specs.Refusals.{yes}
 use Rattle.circuit.specs.Check.{checkCircuit}
 use Rattle.circuit.specs.Circuits.{Circuit, filled, readAnswer, nodeWords, outputWords}
 use Rattle.bristol.specs.Bristol.{bristol, bristolCircuit}

@@ -1,8 +1,8 @@
 -- A reader's answer and areas, then the composed call: demand 3 for what the reader's definition gives.
 -- Assumes nothing.
-use Prim.Native.Nat.{ℕ, zero, suc, _+_, _-_, _*_, _≤_, _<_}
+use Prim.Native.Nat.{ℕ, _-_, _*_, _≤_}
 use mathlib.Core.Path.{_≡_, refl, sym, ap, ap₂, _∙_, subst}
-use mathlib.Core.List.{List, [], _∷_, _++_}
+use mathlib.Core.List.{List}
 use native.Mathlib.Omega.{arith}
 use lib.ListN.{length, take, replicate, length-append}
 use lib.Seq.{take-at}
@@ -12,7 +12,7 @@ use Rattle.circuit.specs.declared.refusals.Refusal.{Refusal}
 use Rattle.circuit.specs.declared.refusals.Checked.the-variants.{Sound}
 use Rattle.circuit.specs.declared.refusals.Read.{Read}
 use Rattle.circuit.specs.declared.refusals.Read.the-variants.{Circuit as Accepted, Refused}
-use Rattle.circuit.specs.Refusals.{Try, no, yes}
+use Rattle.circuit.specs.Refusals.{Try, yes}
 use Rattle.circuit.specs.Records.{encodeNode, encodeOutput}
 use Rattle.circuit.specs.Check.{checkCircuit}
 use Rattle.circuit.specs.Circuits.{Circuit, filled, readAnswer, nodeWords, outputWords}
@@ -20,7 +20,7 @@ use Rattle.circuit.proofs.Codes.{node-wide, output-wide}
 use Rattle.schedule.specs.Call.{scheduleFault}
 use Rattle.reading.specs.Areas.{Leaves}
 use Rattle.assurance.specs.declared.Both.{Both}
-use Rattle.assurance.specs.Assurance.{wiresOut, nodeRecords, outputRecords, Lent}
+use Rattle.assurance.specs.Assurance.{wiresOut, nodeRecords, outputRecords}
 use Rattle.assurance.specs.Carried.{Carries}
 use Rattle.assurance.specs.Refused.{RefusedBoth, RefusesRead}
 use Rattle.assured.specs.Assured.{Assures, Refuses}

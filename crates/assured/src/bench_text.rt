@@ -1,5 +1,4 @@
 // A BENCH text, read, ordered and run.
-ghost use mathlib.Core.Path.{_≡_};
 ghost use lib.ListN.{length};
 ghost use Rattle.circuit.specs.Circuits.{readAnswer};
 ghost use Rattle.bench.specs.Bench.{bench};

@@ -1,5 +1,4 @@
 // A BLIF text, read, ordered and run.
-ghost use mathlib.Core.Path.{_≡_};
 ghost use lib.ListN.{length};
 ghost use Rattle.circuit.specs.Circuits.{readAnswer};
 ghost use Rattle.blif.specs.Blif.{blif};

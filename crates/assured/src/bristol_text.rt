@@ -1,5 +1,4 @@
 // A Bristol text, read, ordered and run.
-ghost use mathlib.Core.Path.{_≡_};
 ghost use lib.ListN.{length};
 ghost use Rattle.bristol.specs.Bristol.{bristol, bristolCircuit};
 ghost use Rattle.bristol.specs.Contracts.{Leaves};

@@ -2,8 +2,8 @@
 -- Assumes nothing.
 use Prim.Native.Nat.{ℕ, _+_, _-_, _≤_, _<_}
 use mathlib.Core.Path.{_≡_, refl, sym, ap, _∙_}
-use mathlib.Core.Bool.{Bool, true, false}
-use mathlib.Core.List.{List, [], _∷_}
+use mathlib.Core.Bool.{true}
+use mathlib.Core.List.{List}
 use native.Mathlib.Omega.{arith}
 use lib.ListN.{length}
 use borrow.Author.Tests.{lt-ltb, le-ltb}
@@ -15,7 +15,6 @@ use Rattle.circuit.specs.declared.refusals.Refusal.the-variants.{Unknown}
 use Rattle.circuit.specs.declared.refusals.Checked.{Checked}
 use Rattle.circuit.specs.declared.refusals.Checked.the-variants.{Sound, Refused}
 use Rattle.circuit.specs.Refusals.{Try, no, yes, andThen}
-use Rattle.circuit.specs.Circuits.{Circuit}
 use Rattle.text.specs.Blanks.{trimmed}
 use Rattle.text.specs.Lines.{lines}
 use Rattle.text.specs.declared.words.Word.{Word}

@@ -6,12 +6,12 @@ use mathlib.Core.Bool.{true}
 use mathlib.Core.List.{List, [], _∷_}
 use native.Mathlib.Omega.{arith}
 use lib.ListN.{length}
-use borrow.Author.Tests.{lt-ltb, le-ltb}
+use borrow.Author.Tests.{lt-ltb}
 use Rattle.circuit.specs.declared.refusals.Refusal.{Refusal}
 use Rattle.circuit.specs.declared.refusals.Refusal.the-variants.{DefinedBefore, WrongCount, Malformed}
 use Rattle.circuit.specs.declared.refusals.Checked.{Checked}
 use Rattle.circuit.specs.declared.refusals.Checked.the-variants.{Sound, Refused}
-use Rattle.circuit.specs.Refusals.{Try, no, yes, andThen, checkThen}
+use Rattle.circuit.specs.Refusals.{Try, no, yes, andThen}
 use Rattle.text.specs.Words.{bytesOf}
 use Rattle.text.specs.declared.words.Word.{Word}
 use Rattle.names.specs.Names.{Entry}
@@ -27,14 +27,14 @@ use Rattle.bench_gates.specs.declared.operations.Operation.the-variants.{Other}
 use Rattle.bench_gates.specs.Operations.{operationOf}
 use Rattle.bench_gates.specs.Gates.{inputWires, onlyOne, lowerGate}
 use Rattle.bench_gates.specs.declared.inputs.Wires.{Wires}
-use Rattle.bench_gates.specs.Walks.{faultOf, Driven, FirstWires}
+use Rattle.bench_gates.specs.Walks.{faultOf, FirstWires}
 use Rattle.bench_gates.proofs.Drivers.{driven, noWires}
 use Rattle.bench.specs.declared.gates.Plan.{Plan}
 use Rattle.bench.specs.declared.declarations.Named.{Named}
 use Rattle.bench.specs.declared.declarations.Declaration.{Declaration}
 use Rattle.bench.specs.declared.declarations.Declaration.the-variants.{Other as OtherDeclaration}
 use Rattle.bench.specs.Bench.{Gate, gateInvoked, gateOf, gateLine, Declared, declarationOf, declaredIn}
-use Rattle.bench.specs.Plans.{planned, PlanIs, NamedIs}
+use Rattle.bench.specs.Plans.{PlanIs, NamedIs}
 use Rattle.bench.proofs.LineLaws.{refused-sound}
 
 -- ---- gates

@@ -1,7 +1,7 @@
 -- The BENCH reader: the lines of a joined text, one after the other.
 -- Assumes nothing.
 use Prim.Native.Nat.{ℕ, _+_}
-use mathlib.Core.Bool.{Bool, true, false, cond}
+use mathlib.Core.Bool.{true, cond}
 use mathlib.Core.List.{List, [], _∷_}
 use lib.Dec.{ltb}
 use Rattle.laws.specs.Stretches.{run, isNot}

@@ -1,14 +1,14 @@
 -- A chain as the code makes it, wire by wire, is the chain of the definition.
 -- Assumes nothing.
 use Prim.Native.Nat.{ℕ, zero, suc, _+_, _-_, _^_, _≤_, _<_}
-use mathlib.Core.Path.{_≡_, refl, sym, ap, _∙_}
-use mathlib.Core.Bool.{Bool, true, false}
-use mathlib.Core.List.{List, [], _∷_, _++_}
+use mathlib.Core.Path.{_≡_, refl, ap, _∙_}
+use mathlib.Core.Bool.{true}
+use mathlib.Core.List.{List, [], _∷_}
 use native.Mathlib.Numerals.{add-one}
 use native.Mathlib.Omega.{arith}
 use lib.ListN.{length}
 use Rattle.circuit.specs.declared.refusals.Refusal.{Refusal}
-use Rattle.circuit.specs.declared.refusals.Refusal.the-variants.{NoDriver, WrongCount}
+use Rattle.circuit.specs.declared.refusals.Refusal.the-variants.{NoDriver}
 use Rattle.circuit.specs.declared.refusals.Checked.{Checked}
 use Rattle.circuit.specs.declared.refusals.Checked.the-variants.{Sound, Refused}
 use Rattle.circuit.specs.declared.records.BoolWire.{BoolWire}

@@ -1,26 +1,24 @@
 -- Whether each input has a driver.
 -- Assumes nothing.
-use Prim.Native.Nat.{ℕ, zero, suc, _+_, _-_, _≤_, _<_}
-use mathlib.Core.Path.{_≡_, refl, sym, ap, ap₂, _∙_}
-use mathlib.Core.Bool.{Bool, true, false, cond, not, _&&_}
+use Prim.Native.Nat.{ℕ, suc, _+_, _-_, _<_}
+use mathlib.Core.Path.{_≡_, refl, sym, ap, _∙_}
+use mathlib.Core.Bool.{Bool, true, false, cond}
 use mathlib.Core.List.{List, [], _∷_, _++_, append-assoc, append-nil}
-use native.Mathlib.Nat.{add-zero}
 use native.Mathlib.Omega.{arith}
 use lib.ListN.{length, getD, length-append, List·getD-eq-default}
 use lib.Dec.{eqb, ltb}
 use borrow.Author.Tests.{eqb-true, eqb-false, ltb-true, ltb-false}
 use Rattle.laws.proofs.Filling.{snoc-below, snoc-last, snoc-past}
 use Rattle.circuit.specs.declared.refusals.Refusal.{Refusal}
-use Rattle.circuit.specs.declared.refusals.Refusal.the-variants.{Malformed, NoDriver, WrongCount}
-use Rattle.circuit.specs.declared.refusals.Checked.{Checked}
+use Rattle.circuit.specs.declared.refusals.Refusal.the-variants.{NoDriver}
 use Rattle.circuit.specs.declared.refusals.Checked.the-variants.{Sound, Refused}
-use Rattle.circuit.specs.Refusals.{Try, no, yes, andThen, need}
+use Rattle.circuit.specs.Refusals.{Try, no, yes, andThen}
 use Rattle.text.specs.declared.words.Word.{Word}
 use Rattle.names.specs.Names.{Entry}
 use Rattle.names.specs.declared.Found.{Found}
 use Rattle.names.specs.declared.Found.the-variants.{At, Nothing}
-use Rattle.reading.specs.Reading.{find, driver}
-use Rattle.bench_gates.specs.Gates.{inputWires, onlyOne}
+use Rattle.reading.specs.Reading.{find}
+use Rattle.bench_gates.specs.Gates.{inputWires}
 use Rattle.bench_gates.specs.declared.inputs.Wires.{Wires}
 use Rattle.bench_gates.specs.Walks.{faultOf, Driven, AreFirst, FirstWires}
 

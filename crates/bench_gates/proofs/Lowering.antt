@@ -1,6 +1,6 @@
 -- The ways of lowering a gate whose inputs have drivers.
 -- Assumes nothing.
-use Prim.Native.Nat.{ℕ, zero, suc, _+_, _≤_, _<_}
+use Prim.Native.Nat.{ℕ, _≤_, _<_}
 use mathlib.Core.Path.{_≡_, refl, sym, ap, _∙_}
 use mathlib.Core.Bool.{true}
 use mathlib.Core.List.{List, [], _∷_}
@@ -14,17 +14,15 @@ use Rattle.circuit.specs.declared.records.BoolNode.{BoolNode}
 use Rattle.circuit.specs.Refusals.{Try, no, yes, andThen}
 use Rattle.text.specs.declared.words.Word.{Word}
 use Rattle.names.specs.Names.{Entry}
-use Rattle.names.specs.declared.Found.{Found}
 use Rattle.names.specs.declared.Found.the-variants.{At, Nothing}
 use Rattle.reading.specs.Reading.{Places, Held, find, addName, withNames, addAlias, addNamed}
 use Rattle.reading.specs.Holding.{outcome}
-use Rattle.bench_gates.specs.declared.operations.Operation.{Operation}
 use Rattle.bench_gates.specs.declared.operations.Operation.the-variants.{Buf, Not, Chain, Other}
 use Rattle.bench_gates.specs.declared.operations.Binary.{Binary}
 use Rattle.bench_gates.specs.Gates.{inputWires, onlyOne, inverter, lastCell, withNodes, chain, chained, lowerGate}
 use Rattle.bench_gates.specs.declared.inputs.Wires.{Wires}
 use Rattle.bench_gates.specs.Walks.{Driven, AreFirst, FirstWires, ifOne, chainWords}
-use Rattle.bench_gates.proofs.Drivers.{inputs-none, inputs-more, inputs-rest, inputs-length}
+use Rattle.bench_gates.proofs.Drivers.{inputs-none, inputs-rest, inputs-length}
 use Rattle.bench_gates.proofs.Chaining.{chain-words}
 
 -- what one input gives, by its kept wire

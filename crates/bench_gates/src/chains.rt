@@ -1,6 +1,6 @@
 // A chained gate: all its cells but the last.
 ghost use mathlib.Core.Path.{_≡_};
-ghost use Prim.Native.Nat.{ℕ, _+_, _-_, _≤_, _<_, _^_};
+ghost use Prim.Native.Nat.{_+_, _-_, _≤_, _<_, _^_};
 ghost use lib.ListN.{length};
 ghost use Rattle.laws.specs.Areas.{capacity};
 ghost use Rattle.circuit.specs.Records.{wireWord, nodesOf};

@@ -11,7 +11,6 @@ ghost use Rattle.bench_gates.specs.declared.operations.Operation.the-var
 ghost use Rattle.bench_gates.specs.Gates.{inputWires, inverter, lowerGate};
 ghost use Rattle.bench_invocations.specs.Walks.{argumentsFrom};
 ghost use Rattle.bench_gates.specs.Walks.{Driven, FirstWires, ifOne, chainWords};
-use crate::chains::Chained;
 use crate::chains::bench_lut;
 use crate::chains::chain_steps;
 use crate::inputs::Wires;

@@ -1,13 +1,11 @@
 -- The tests of an invocation, in the code's order.
 -- Assumes nothing.
-use Prim.Native.Nat.{ℕ, zero, suc, _+_, _-_, _≤_, _<_}
+use Prim.Native.Nat.{ℕ, _+_, _-_, _≤_, _<_}
 use mathlib.Core.Path.{_≡_, refl, sym, ap, _∙_}
-use mathlib.Core.Bool.{Bool, true, false, cond, not}
-use mathlib.Core.List.{List, [], _∷_}
-use native.Mathlib.Nat.{zero-add}
+use mathlib.Core.Bool.{Bool, true, false}
+use mathlib.Core.List.{List, []}
 use native.Mathlib.Omega.{arith}
 use lib.ListN.{length}
-use lib.Dec.{eqb}
 use borrow.Author.Tests.{lt-ltb, le-ltb, eq-eqb, ne-eqb}
 use Rattle.circuit.specs.declared.refusals.Refusal.{Refusal}
 use Rattle.circuit.specs.declared.refusals.Refusal.the-variants.{Malformed}
@@ -18,8 +16,8 @@ use Rattle.text.specs.Blanks.{trimmed}
 use Rattle.text.specs.declared.words.Word.{Word}
 use Rattle.reading.specs.Holding.{outcome}
 use Rattle.bench_invocations.specs.declared.invocation.Invocation.{Invocation}
-use Rattle.bench_invocations.specs.Invocations.{Invoked, between, blank, trimmedParts, argumentsOf, noneEmpty, upToLast, invocation, parseInvocation}
-use Rattle.bench_invocations.specs.Walks.{argumentsFrom, counted, invoked, InvokedIs, InvocationIs}
+use Rattle.bench_invocations.specs.Invocations.{Invoked, between, argumentsOf, noneEmpty, upToLast, invocation, parseInvocation}
+use Rattle.bench_invocations.specs.Walks.{argumentsFrom, counted, InvokedIs, InvocationIs}
 use Rattle.bench_invocations.proofs.Parts.{arguments-over, arguments-here}
 
 no-yes : {A : Type 0} {e : Refusal} {a : A} → no e ≡ yes a → ⊥

@@ -1,7 +1,7 @@
 -- An invocation of BENCH: an operation, and its arguments in parentheses.
 -- Assumes nothing.
 use Prim.Native.Nat.{ℕ, suc, _+_, _-_}
-use mathlib.Core.Bool.{Bool, true, false, cond, not, _&&_}
+use mathlib.Core.Bool.{Bool, true, cond, not, _&&_}
 use mathlib.Core.List.{List, [], _∷_, map}
 use lib.Dec.{eqb, ltb}
 use Rattle.laws.specs.Stretches.{run, isNot}

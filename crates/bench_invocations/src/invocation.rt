@@ -2,7 +2,6 @@
 ghost use mathlib.Core.Path.{_≡_};
 ghost use Prim.Native.Nat.{_+_, _-_, _≤_};
 ghost use lib.ListN.{length};
-ghost use Rattle.circuit.specs.Refusals.{need, yes};
 ghost use Rattle.circuit.specs.declared.refusals.Refusal.the-variants.{Malformed};
 ghost use Rattle.circuit.specs.declared.refusals.Checked.the-variants.{Refused};
 ghost use Rattle.bench_invocations.specs.Invocations.{parseInvocation, invocation, between};

@@ -1,11 +1,11 @@
 -- Laws of rows stored, of the rows in turn, and of the outputs.
 -- Assumes nothing.
-use Prim.Native.Nat.{ℕ, zero, suc, _+_, _-_, _*_, _≤_, _<_, _^_}
+use Prim.Native.Nat.{ℕ, _+_, _-_, _*_, _≤_, _<_}
 use mathlib.Core.Path.{_≡_, refl, sym, ap, _∙_, subst}
 use mathlib.Core.List.{List, [], _∷_, _++_}
 use native.Mathlib.Nat.{zero-add}
 use native.Mathlib.Omega.{arith}
-use native.Mathlib.Numerals.{add-one, add-two}
+use native.Mathlib.Numerals.{add-one}
 use lib.ListN.{length, getD, set, drop, length-append, drop-of-length-le}
 use lib.Seq.{drop-cons}
 use borrow.Author.Tests.{eq-eqb, ne-eqb, lt-ltb, le-ltb}
@@ -20,7 +20,7 @@ use Rattle.circuit.specs.declared.records.BoolWire.the-variants.{Node}
 use Rattle.circuit.specs.declared.records.BoolNode.{BoolNode}
 use Rattle.circuit.specs.declared.records.Output.{Output}
 use Rattle.circuit.specs.Refusals.{Try, no}
-use Rattle.circuit.specs.Records.{wireOf, wireWord, encodeNode, encodeOutput}
+use Rattle.circuit.specs.Records.{wireWord, encodeNode, encodeOutput}
 use Rattle.circuit.proofs.Codes.{node-wide, output-wide}
 use Rattle.text.specs.Words.{splitWhitespace}
 use Rattle.text.specs.Lines.{keptLines}

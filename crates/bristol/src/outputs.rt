@@ -1,7 +1,7 @@
 // The outputs: the last wires.
 ghost use mathlib.Core.Path.{_≡_};
 ghost use mathlib.Core.List.{List, [], _∷_, _++_};
-ghost use Prim.Native.Nat.{ℕ, _+_, _*_, _≤_};
+ghost use Prim.Native.Nat.{_+_, _*_, _≤_};
 ghost use lib.ListN.{length, drop};
 ghost use Rattle.laws.specs.Areas.{capacity};
 ghost use Rattle.circuit.specs.declared.records.Output.{Output};

@@ -1,7 +1,7 @@
 // The rows in turn.
 ghost use mathlib.Core.Path.{_≡_};
 ghost use mathlib.Core.List.{List};
-ghost use Prim.Native.Nat.{ℕ, _+_, _-_, _≤_};
+ghost use Prim.Native.Nat.{_+_, _-_, _≤_};
 ghost use lib.ListN.{length, drop};
 ghost use Rattle.laws.specs.Areas.{capacity};
 ghost use Rattle.laws.specs.Stretches.{stretch};

@@ -1,22 +1,19 @@
 -- The laws of the circuit check: a node's wires, the scans of wires and nodes, and what a check's answer tells.
 -- Assumes nothing.
 use mathlib.Core.Path.{_≡_, refl, sym, ap, ap₂, _∙_, subst}
-use mathlib.Core.Logic.{_⊎_, inl, inr}
 use mathlib.Core.List.{List, [], _∷_}
-use mathlib.Core.Bool.{Bool, true, false, cond, not, _&&_, _||_, true≢false, false≢true}
-use Prim.Native.Nat.{ℕ, zero, suc, _+_, _-_, _*_, _/_, _%_, _^_, _≤_, _<_}
+use mathlib.Core.Bool.{Bool, true, false, cond, _&&_, _||_}
+use Prim.Native.Nat.{ℕ, zero, suc, _+_, _-_, _*_, _/_, _%_, _≤_, _<_}
 use native.Mathlib.Nat.{zero-add}
 use native.Mathlib.Numerals.{add-one}
 use native.Mathlib.Omega.{arith}
-use lib.Dec.{eqb, leb}
-use borrow.Author.Tests.{eqb-true, eq-eqb, ne-eqb, le-leb, lt-leb, leb-false, leb-true}
+use lib.Dec.{leb}
+use borrow.Author.Tests.{eq-eqb, ne-eqb, le-leb, lt-leb, leb-false}
 use lib.ListN.{length, getD, take, drop, drop-of-length-le, length-take}
 use lib.Seq.{drop-cons}
 use Rattle.laws.specs.Areas.{upFrom}
-use Rattle.laws.specs.Lists.{some}
-use Rattle.laws.proofs.Areas.{length-up, up-start, up-more, up-none}
-use Rattle.laws.proofs.Lists.{none-at, none-narrower}
-use Rattle.laws.proofs.Tests.{neither, and-true}
+use Rattle.laws.proofs.Areas.{up-start, up-more, up-none}
+use Rattle.laws.proofs.Lists.{none-narrower}
 use Rattle.circuit.specs.declared.refusals.Refusal.{Refusal}
 use Rattle.circuit.specs.declared.refusals.Refusal.the-variants.{Broken, NotEarlier}
 use Rattle.circuit.specs.declared.refusals.Checked.{Checked}
@@ -25,8 +22,8 @@ use Rattle.circuit.specs.declared.records.BoolWire.{BoolWire}
 use Rattle.circuit.specs.declared.records.BoolWire.the-variants.{Const, Node}
 use Rattle.circuit.specs.declared.records.BoolNode.{BoolNode}
 use Rattle.circuit.specs.Refusals.{refuseIf, firstFault}
-use Rattle.circuit.specs.Records.{noWire, noNode, nodeAt, NodeIs, nodesOf, outputWires, isCellNode, slots, wiresOf}
-use Rattle.circuit.specs.Check.{cellBroken, recordBroken, notBelow, someNotBelow, checkWires, checkNode, checkNodes, checkCircuit, nodeBroken, someBroken, circuitBroken, whole, nodesIn, wiresIn, topologicalFault, recordsFault}
+use Rattle.circuit.specs.Records.{noWire, noNode, nodeAt, NodeIs, nodesOf, isCellNode, slots, wiresOf}
+use Rattle.circuit.specs.Check.{cellBroken, recordBroken, notBelow, someNotBelow, checkWires, checkNode, checkNodes, checkCircuit, someBroken, circuitBroken, whole, nodesIn, wiresIn, topologicalFault, recordsFault}
 use Rattle.circuit.proofs.Codes.{node-is, length-nodes}
 
 -- ---- the first fault of two checks

@@ -1,13 +1,13 @@
 -- The graph of a circuit's nodes, and that a circuit which the check accepts reads only earlier nodes.
 -- Assumes nothing.
-use Prim.Native.Nat.{ℕ, zero, suc, _+_, _≤_, _<_}
+use Prim.Native.Nat.{ℕ, zero, suc, _<_}
 use mathlib.Core.Path.{_≡_, refl, sym, ap, _∙_, subst}
 use mathlib.Core.Logic.{_⊎_, inl, inr}
-use mathlib.Core.Bool.{Bool, true, false, _||_, false≢true}
-use mathlib.Core.List.{List, [], _∷_, map}
+use mathlib.Core.Bool.{true, false, false≢true}
+use mathlib.Core.List.{List, [], _∷_}
 use native.Mathlib.Omega.{arith}
-use lib.Dec.{eqb, leb}
-use lib.ListN.{length, getD, length-map}
+use lib.Dec.{leb}
+use lib.ListN.{length, getD}
 use borrow.Author.Tests.{leb-false}
 use Rattle.laws.specs.Lists.{elem}
 use Rattle.laws.proofs.Tests.{neither}
@@ -17,8 +17,8 @@ use Rattle.circuit.specs.declared.records.BoolWire.the-variants.{Const, 
 use Rattle.circuit.specs.declared.records.BoolNode.{BoolNode}
 use Rattle.circuit.specs.declared.refusals.Checked.the-variants.{Sound}
 use Rattle.circuit.specs.Records.{isCellNode, wiresOf, noNode}
-use Rattle.circuit.specs.Check.{notBelow, someNotBelow, checkCircuit}
-use Rattle.circuit.specs.Graph.{Vertex, nodesRead, vertexOf, graphOf, outside, isCell, readsOf, Reads, Forward}
+use Rattle.circuit.specs.Check.{someNotBelow, checkCircuit}
+use Rattle.circuit.specs.Graph.{Vertex, nodesRead, vertexOf, graphOf, outside, isCell, readsOf, Forward}
 use Rattle.circuit.proofs.Checks.{Sounds, circuit-sound}
 use Rattle.circuit.proofs.Graph.{cell-below}
 

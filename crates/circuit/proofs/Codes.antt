@@ -1,13 +1,13 @@
 -- Records and their words: the two ways of a code, and what an area of records holds.
 -- Assumes nothing.
-use mathlib.Core.Path.{_≡_, refl, sym, ap, ap₂, _∙_}
+use mathlib.Core.Path.{_≡_, refl, sym, ap, _∙_}
 use mathlib.Core.List.{List, [], _∷_, _++_, map}
-use mathlib.Core.Bool.{Bool, true, false, cond}
+use mathlib.Core.Bool.{true, false}
 use Prim.Native.Nat.{ℕ, zero, suc, _+_, _-_, _*_, _<_}
 use native.Mathlib.Nat.{add-zero, zero-add}
 use native.Mathlib.Numerals.{add-two}
 use native.Mathlib.Omega.{arith}
-use lib.ListN.{getD, length, replicate, length-append}
+use lib.ListN.{getD, length, replicate}
 use lib.Dec.{lit<}
 use Rattle.circuit.specs.declared.records.BoolWire.{BoolWire}
 use Rattle.circuit.specs.declared.records.BoolWire.the-variants.{Const, Node}
@@ -19,7 +19,7 @@ use Rattle.circuit.specs.Records.{noNode, encodeOutput, outputFrom, outp
 use Rattle.laws.specs.Areas.{encodes, stored}
 use Rattle.laws.specs.Areas.{upFrom}
 use Rattle.laws.proofs.Storing.{list-of, more-list, more-clean, up-at}
-use Rattle.laws.proofs.Areas.{record-at, append-record, length-up}
+use Rattle.laws.proofs.Areas.{record-at, length-up}
 
 pub wireOf-node : (x : ℕ) → (x ≡ 0 → ⊥) → (x ≡ 1 → ⊥) → wireOf x ≡ Node (record { 0 = x - 2 })
 wireOf-node zero p q = absurd (p refl)

@@ -2,16 +2,15 @@
 -- Assumes nothing.
 use mathlib.Core.Path.{_≡_, refl}
 use mathlib.Core.Bool.{true, false}
-use mathlib.Core.List.{List, [], _∷_, _++_, map}
+use mathlib.Core.List.{List, [], _∷_, map}
 use Prim.Native.Nat.{ℕ}
-use lib.ListN.{length, take, replicate}
+use lib.ListN.{replicate}
 use Rattle.laws.specs.Areas.{encodes}
 use Rattle.circuit.specs.declared.records.BoolWire.{BoolWire}
 use Rattle.circuit.specs.declared.records.BoolWire.the-variants.{Const, Node}
 use Rattle.circuit.specs.declared.records.Name.the-variants.{Stretch, Step, Number}
 use Rattle.circuit.specs.declared.records.BoolNode.{BoolNode}
 use Rattle.circuit.specs.declared.records.Output.{Output}
-use Rattle.circuit.specs.declared.refusals.Checked.{Checked}
 use Rattle.circuit.specs.Refusals.{checkedNumber}
 use Rattle.circuit.specs.Records.{encodeNode, nodesOf, encodeOutput, outputsOf, isCellNode, wiresOf}
 use Rattle.circuit.specs.Check.{cellBroken, recordBroken, checkWires, checkNode, checkNodes, checkCircuit, nodeBroken, circuitBroken, whole, topologicalFault, recordsFault}

@@ -3,18 +3,15 @@
 use Prim.Native.Nat.{ℕ, zero, suc, _+_, _-_, _≤_, _<_}
 use mathlib.Core.Path.{_≡_, refl, sym, ap, _∙_, subst}
 use mathlib.Core.Logic.{_⊎_, inl, inr, _≢_}
-use mathlib.Core.Bool.{Bool, true, false, not, cond, _&&_, _||_, true≢false, false≢true}
+use mathlib.Core.Bool.{Bool, true, false, not, _&&_, true≢false, false≢true}
 use mathlib.Core.List.{List, [], _∷_, _++_, append-assoc, append-nil}
-use mathlib.Core.Option.{Option, none, some}
 use native.Mathlib.Omega.{arith}
-use native.Mathlib.Nat.{zero-add, add-zero, add-suc, suc-add}
-use native.Mathlib.Numerals.{add-one}
-use lib.Dec.{ltb, eqb}
-use lib.ListN.{length, getD, take, List·getD-eq-default}
-use borrow.Author.Tests.{ltb-true, ltb-false, eqb-true, eqb-false, eq-eqb, ne-eqb, not-true, not-false}
-use Rattle.laws.specs.Lists.{elem, keep, numbers}
-use Rattle.laws.proofs.Tests.{and-true, and-makes, split-on, clash, true-of, false-of}
-use Rattle.laws.proofs.Lists.{elem-snoc-same, elem-snoc-more, elem-snoc-other, elem-cons-split, elem-snoc-split, numbers-in, in-numbers, numbers-none, numbers-same, one-less, numbers-empty, empty-of-length, elem-later, elem-here, elem-take}
+use lib.Dec.{ltb}
+use lib.ListN.{length, List·getD-eq-default}
+use borrow.Author.Tests.{ltb-true, ltb-false, ne-eqb, not-true}
+use Rattle.laws.specs.Lists.{elem, numbers}
+use Rattle.laws.proofs.Tests.{and-true, and-makes, clash, true-of, false-of}
+use Rattle.laws.proofs.Lists.{elem-snoc-same, elem-snoc-other, elem-cons-split, elem-snoc-split, numbers-in, numbers-none, numbers-same, one-less, numbers-empty, empty-of-length, elem-later, elem-here}
 use Rattle.circuit.specs.Graph.{Vertex, outside, isCell, readsOf, cellsOf, waits, free, ready, readyCells, fit, Reads, Leads, once, more, Circle, Forward, Placed, InOrder, ListsAll}
 
 module _ (c : List Vertex) where

@@ -1,23 +1,18 @@
 -- Nodes that keep the rules at their places: what a reader shows of each node that it appends, and that the check then accepts.
 -- Assumes nothing.
-use mathlib.Core.Path.{_≡_, refl, sym, ap, _∙_, subst}
+use mathlib.Core.Path.{_≡_, refl, subst}
 use mathlib.Core.List.{List, [], _∷_, _++_}
-use mathlib.Core.Bool.{Bool, true, false, cond, _&&_, _||_}
-use Prim.Native.Nat.{ℕ, zero, suc, _+_, _^_, _≤_, _<_}
-use native.Mathlib.Nat.{add-zero, zero-add}
+use mathlib.Core.Bool.{false}
+use Prim.Native.Nat.{ℕ, zero, suc, _+_, _≤_, _<_}
+use native.Mathlib.Nat.{add-zero}
 use native.Mathlib.Omega.{arith}
-use lib.Dec.{eqb, leb}
-use borrow.Author.Tests.{eq-eqb, ne-eqb, le-leb, lt-leb}
-use lib.ListN.{length, take}
-use Rattle.laws.specs.Lists.{some}
+use borrow.Author.Tests.{eq-eqb, ne-eqb, lt-leb}
+use lib.ListN.{length}
 use Rattle.laws.proofs.Tests.{neither}
-use Rattle.circuit.specs.declared.refusals.Refusal.the-variants.{Broken}
 use Rattle.circuit.specs.declared.refusals.Checked.the-variants.{Sound}
 use Rattle.circuit.specs.declared.records.BoolWire.{BoolWire}
-use Rattle.circuit.specs.declared.records.BoolWire.the-variants.{Const, Node}
 use Rattle.circuit.specs.declared.records.BoolNode.{BoolNode}
-use Rattle.circuit.specs.Refusals.{refuseIf, firstFault}
-use Rattle.circuit.specs.Records.{wireOf, isCellNode, slots, wiresOf}
+use Rattle.circuit.specs.Records.{wireOf, wiresOf}
 use Rattle.circuit.specs.Check.{cellBroken, recordBroken, notBelow, someNotBelow, checkWires, checkNode, checkNodes, checkCircuit}
 use Rattle.circuit.proofs.Checks.{all-below-more, cell-wires, no-wires}
 

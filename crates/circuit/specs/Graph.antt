@@ -1,7 +1,7 @@
 -- A circuit as the schedule and the run see it: of each node, whether it is a cell, and the nodes that it reads, once per read.
 -- Which cells are ready, which lists are fit, which cells read in a circle.
 -- Assumes nothing.
-use Prim.Native.Nat.{ℕ, zero, suc, _<_}
+use Prim.Native.Nat.{ℕ, _<_}
 use mathlib.Core.Path.{_≡_}
 use mathlib.Core.Bool.{Bool, true, false, not, _&&_}
 use mathlib.Core.List.{List, [], _∷_, _++_, map}

@@ -3,12 +3,10 @@
 use mathlib.Core.Path.{_≡_}
 use mathlib.Core.Bool.{Bool, true, false, cond}
 use mathlib.Core.List.{List, [], _∷_, _++_}
-use Prim.Native.Nat.{ℕ, zero, suc, _+_, _*_, _/_}
+use Prim.Native.Nat.{ℕ, zero, suc, _+_, _*_}
 use lib.Dec.{eqb}
-use lib.ListN.{length, getD, take}
+use lib.ListN.{getD, take}
 use Rattle.laws.specs.Areas.{upFrom}
-use Rattle.circuit.specs.declared.records.NodeNumber.{NodeNumber}
-use Rattle.circuit.specs.declared.records.WireNumber.{WireNumber}
 use Rattle.circuit.specs.declared.records.BoolWire.{BoolWire}
 use Rattle.circuit.specs.declared.records.BoolWire.the-variants.{Const, Node}
 use Rattle.circuit.specs.declared.records.Name.{Name}

@@ -1,7 +1,7 @@
 -- Refusals: 01's numbers, the first fault of several, and a definition's answer or its refusal.
 -- Assumes nothing.
 use Prim.Native.Nat.{ℕ}
-use mathlib.Core.Bool.{Bool, true, false, cond}
+use mathlib.Core.Bool.{Bool, true, false}
 use Rattle.circuit.specs.declared.refusals.Refusal.{Refusal}
 use Rattle.circuit.specs.declared.refusals.Refusal.the-variants.{TextTooLong, NotAscii, NoRoom, DefinedBefore, NoDriver, WrongCount, BadRow, Unknown, Malformed, NoOutputs, HeaderMismatch, NotNumber, OutputOutside, DrivenTwice, Broken, NotEarlier, Circle, NoWindow, WrongValues, UnfitOrder, TooManyInputs}
 use Rattle.circuit.specs.declared.refusals.Checked.{Checked}

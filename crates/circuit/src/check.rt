@@ -1,6 +1,6 @@
 // The circuit rules (15) and the circuit check (15, 16).
 ghost use mathlib.Core.Path.{_≡_};
-ghost use Prim.Native.Nat.{ℕ, _+_, _*_, _≤_};
+ghost use Prim.Native.Nat.{_+_, _*_, _≤_};
 ghost use lib.ListN.{length};
 ghost use Rattle.circuit.specs.Records.{wiresOf, nodesOf, outputWires};
 ghost use Rattle.circuit.specs.Check.{notBelow, someNotBelow, recordBroken, checkNodes, nodeBroken, someBroken, topologicalFault, recordsFault};

@@ -1,7 +1,6 @@
 // Circuit records: values in code, words in the areas.
 ghost use mathlib.Core.Path.{_≡_};
-ghost use mathlib.Core.List.{List};
-ghost use Prim.Native.Nat.{ℕ, _+_, _*_, _^_, _<_, _≤_};
+ghost use Prim.Native.Nat.{_+_, _*_, _^_, _<_, _≤_};
 ghost use lib.ListN.{length, getD};
 ghost use Rattle.circuit.specs.Records.{wireWord, wireOf, nameWords, nameFrom, encodeNode, NodeIs, encodeOutput, OutputIs, wiresOf, noWire};
 

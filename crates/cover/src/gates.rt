@@ -1,6 +1,6 @@
 // The words of a line, as they are noted.
 ghost use mathlib.Core.Path.{_≡_};
-ghost use Prim.Native.Nat.{ℕ, _+_, _-_, _≤_, _<_, _^_};
+ghost use Prim.Native.Nat.{_+_, _-_, _≤_, _<_, _^_};
 ghost use lib.ListN.{length};
 ghost use Rattle.laws.specs.Stretches.{stretch};
 ghost use Rattle.text.specs.Words.{words};

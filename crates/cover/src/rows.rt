@@ -1,7 +1,7 @@
 // The rows of a `.names` line.
 ghost use mathlib.Core.Path.{_≡_};
 ghost use mathlib.Core.Bool.{cond};
-ghost use Prim.Native.Nat.{ℕ, _+_, _-_, _≤_, _<_, _^_};
+ghost use Prim.Native.Nat.{_+_, _-_, _≤_, _<_};
 ghost use lib.ListN.{length};
 ghost use Rattle.cells.specs.Cells.{setEntry};
 ghost use Rattle.laws.specs.Stretches.{stretch};

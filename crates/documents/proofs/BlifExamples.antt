@@ -7,7 +7,7 @@ use Rattle.laws.specs.Stretches.{stretch, sameBytes}
 use Rattle.text.specs.Blanks.{isBlank}
 use Rattle.text.specs.Words.{words, splitWhitespace}
 use Rattle.cover.specs.Directives.{inputs, outputs}
-use Rattle.documents.specs.BlifDocument.{cube, coverValue, declared, coverAfter, LogicGate, gates}
+use Rattle.documents.specs.BlifDocument.{cube, coverValue, declared, coverAfter, gates}
 
 -- the four pairs of values
 pairs : List (List ℕ)

@@ -1,13 +1,13 @@
 -- Areas of records of one width: what stands in a record of `encodes xs ++ rest`, and what a store of the next record gives.
 -- Assumes nothing.
-use mathlib.Core.Path.{_≡_, refl, sym, ap, ap₂, _∙_, subst}
+use mathlib.Core.Path.{_≡_, refl, sym, ap, ap₂, _∙_}
 use mathlib.Core.List.{List, [], _∷_, _++_, append-assoc, append-nil}
 use Prim.Native.Nat.{ℕ, zero, suc, _+_, _-_, _*_, _≤_, _<_}
 use native.Mathlib.Nat.{suc-mul, zero-mul, add-assoc, zero-add, le-of-suc-le-suc, not-suc-le-zero, sub-zero, zero-sub, suc-sub-suc}
 use native.Mathlib.Numerals.{add-one}
 use native.Mathlib.Omega.{arith}
-use lib.ListN.{length, set, getD, take, drop, replicate, length-append, length-replicate, List·getD-append}
-use lib.Seq.{paste, take-length, drop-at, drop-drop, take-append-add, take-at, drop-append-add, getD-append-add}
+use lib.ListN.{length, set, getD, take, drop, replicate, length-append, List·getD-append}
+use lib.Seq.{paste, take-length, drop-at, take-append-add, take-at, drop-append-add, getD-append-add}
 use Rattle.laws.specs.Areas.{encodes, stored, upFrom}
 
 -- ---- what a scan has left

@@ -1,12 +1,12 @@
 -- Laws of the pieces of a line.
 -- Assumes nothing.
-use Prim.Native.Nat.{ℕ, zero, suc, _+_, _-_, _*_, _/_, _%_, _^_, _≤_, _<_}
-use mathlib.Core.Path.{_≡_, refl, sym, ap, _∙_}
+use Prim.Native.Nat.{ℕ, suc, _+_, _-_, _*_, _/_, _%_, _^_, _≤_, _<_}
+use mathlib.Core.Path.{_≡_, sym, ap, _∙_}
 use mathlib.Core.Bool.{Bool, true, false, cond}
 use mathlib.Core.List.{List, [], _∷_, _++_, append-nil, append-assoc}
 use native.Mathlib.Omega.{arith}
 use native.Mathlib.Numerals.{add-one}
-use lib.ListN.{length, length-append, length-take, length-drop, take, drop, getD, drop-of-length-le}
+use lib.ListN.{length, length-take, length-drop, take, drop, getD, drop-of-length-le}
 use lib.Seq.{take-length, take-suc, take-all, take-nil}
 use Rattle.laws.specs.Stretches.{stretch}
 use Rattle.laws.proofs.Stretches.{length-stretch}
@@ -17,7 +17,7 @@ use Rattle.circuit.specs.Records.{isCellNode, wiresOf}
 use Rattle.listing.specs.Decimal.{decimal}
 use Rattle.listing.specs.Listing.{word, words}
 use Rattle.listing.specs.Lines.{PutsUpTo}
-use Rattle.listing.proofs.Decimals.{decimal-one, decimal-more, digits-most, digits-tenth}
+use Rattle.listing.proofs.Decimals.{decimal-one, decimal-more, digits-tenth}
 
 pub put-whole : (old new t : List ℕ) (at r : ℕ) → Puts old new at r (stretch t 0 (length t)) → Puts old new at r t
 unfolding stretch

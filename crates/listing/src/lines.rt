@@ -1,7 +1,6 @@
 // The lines of the listing, each in front of a lent area.
-ghost use mathlib.Core.Path.{_≡_};
-ghost use mathlib.Core.List.{List, []};
-ghost use Prim.Native.Nat.{ℕ, _+_, _*_, _/_, _≤_};
+ghost use mathlib.Core.List.{[]};
+ghost use Prim.Native.Nat.{_+_, _*_, _/_, _≤_};
 ghost use lib.ListN.{length, getD};
 ghost use Rattle.circuit.specs.Records.{nodeAt, outputAt, nodesOf, outputsOf};
 ghost use Rattle.listing.specs.Listing.{nodeHead, inputLine, cellLine, nodeLine, outputLine, countLine, orderLine, refusedLine, listing};

@@ -1,7 +1,7 @@
 // The pieces of a line: numbers, wires and names, each put after what stands in front of the area.
 ghost use mathlib.Core.Path.{_≡_};
-ghost use mathlib.Core.List.{List, [], _∷_, _++_};
-ghost use Prim.Native.Nat.{ℕ, _+_, _*_, _≤_, _<_};
+ghost use mathlib.Core.List.{[], _∷_};
+ghost use Prim.Native.Nat.{_+_, _*_, _≤_, _<_};
 ghost use lib.ListN.{length};
 ghost use Rattle.laws.specs.Stretches.{stretch};
 ghost use Rattle.text.specs.Writing.{Puts};

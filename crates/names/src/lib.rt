@@ -4,7 +4,7 @@ ghost use mathlib.Core.Bool.{cond};
 ghost use Prim.Native.Nat.{_+_, _*_, _%_, _<_, _≤_};
 ghost use lib.ListN.{length};
 ghost use Rattle.laws.specs.Stretches.{stretch, sameBytes};
-ghost use Rattle.names.specs.Names.{Entry, lookup};
+ghost use Rattle.names.specs.Names.{lookup};
 ghost use Rattle.names.specs.Chains.{bucketOf, trailOf, startIn, lenIn, trailIn, entries, linkUnit, linkAt, headed, linked, LinkFits, Table, EndsAt, Defined};
 use crate::hashing::four_bytes;
 use crate::hashing::hash_of;

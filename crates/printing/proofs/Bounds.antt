@@ -1,9 +1,9 @@
 -- How many records, cells and bytes there can be: what the lent areas hold.
 -- Assumes nothing.
-use Prim.Native.Nat.{ℕ, zero, suc, _+_, _-_, _*_, _/_, _≤_}
-use mathlib.Core.Path.{_≡_, refl, sym, ap, subst, _∙_}
+use Prim.Native.Nat.{ℕ, zero, suc, _-_, _/_, _≤_}
+use mathlib.Core.Path.{_≡_, refl, sym, ap, subst}
 use mathlib.Core.Bool.{Bool, true, false}
-use mathlib.Core.List.{List, [], _∷_, _++_, map}
+use mathlib.Core.List.{List, [], _∷_, map}
 use native.Mathlib.Omega.{arith}
 use lib.Seq.{length-take-le}
 use lib.ListN.{length, length-append, length-replicate, length-take, take, replicate}
@@ -17,12 +17,12 @@ use Rattle.circuit.specs.declared.refusals.Checked.the-variants.{Sound, Refused
 use Rattle.circuit.specs.Refusals.{Try, no, yes}
 use Rattle.circuit.specs.Circuits.{Circuit, filled, readAnswer, nodeWords, outputWords}
 use Rattle.circuit.specs.Records.{encodeNode, encodeOutput, nodesOf}
-use Rattle.circuit.specs.Graph.{Vertex, vertexOf, graphOf, isCell, cellsOf}
+use Rattle.circuit.specs.Graph.{vertexOf, graphOf, isCell, cellsOf}
 use Rattle.circuit.proofs.Codes.{node-wide, output-wide, length-nodes}
 use Rattle.reading.specs.Areas.{Leaves}
 use Rattle.schedule.specs.declared.Ordered.{Ordered}
 use Rattle.schedule.specs.declared.Ordered.the-variants.{Cells}
-use Rattle.schedule.specs.Call.{orderedCells, graphIn, orderIn, leaves, answerOf, scheduleFault, scheduleCall}
+use Rattle.schedule.specs.Call.{orderedCells, graphIn, leaves, answerOf, scheduleFault, scheduleCall}
 use Rattle.listing.specs.Lines.{Line, Room}
 use Rattle.printing.specs.Inside.{Inside, ReadInside, Listable}
 

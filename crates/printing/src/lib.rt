@@ -1,6 +1,6 @@
 // What the list programs share: the order of the cells, and the lines written one after the other.
 ghost use mathlib.Core.Path.{_≡_};
-ghost use Prim.Native.Nat.{ℕ, _+_, _*_, _/_, _≤_};
+ghost use Prim.Native.Nat.{_+_, _*_, _/_, _≤_};
 ghost use lib.ListN.{length};
 ghost use Rattle.schedule.specs.Call.{leaves, scheduleCall};
 ghost use Rattle.listing.specs.Listing.{keysFrom};

@@ -1,12 +1,12 @@
 -- Laws of the outer functions: the areas made ready, and what a reading ends in.
 -- Assumes nothing.
-use Prim.Native.Nat.{ℕ, zero, suc, _+_, _-_, _*_, _≤_, _<_}
-use mathlib.Core.Path.{_≡_, refl, sym, ap, ap₂, _∙_}
-use mathlib.Core.Bool.{Bool, true, false, not}
-use mathlib.Core.List.{List, [], _∷_, _++_}
+use Prim.Native.Nat.{ℕ, _+_, _-_, _*_, _<_}
+use mathlib.Core.Path.{_≡_, sym, ap, ap₂, _∙_}
+use mathlib.Core.Bool.{not}
+use mathlib.Core.List.{List, _++_}
 use native.Mathlib.Nat.{sub-zero}
 use native.Mathlib.Omega.{arith}
-use lib.ListN.{length, getD, take, drop, replicate, length-replicate}
+use lib.ListN.{length, take, replicate, length-replicate}
 use lib.Seq.{take-at}
 use lib.Dec.{leb, ltb}
 use borrow.Author.Tests.{leb-false, ltb-false}
@@ -18,20 +18,18 @@ use Rattle.circuit.specs.declared.refusals.Checked.{Checked}
 use Rattle.circuit.specs.declared.refusals.Checked.the-variants.{Sound, Refused}
 use Rattle.circuit.specs.declared.refusals.Read.{Read}
 use Rattle.circuit.specs.declared.refusals.Read.the-variants.{Circuit as Accepted}
-use Rattle.circuit.specs.Refusals.{refuseIf, firstFault, Try, no, yes, checkThen}
+use Rattle.circuit.specs.Refusals.{refuseIf, Try, no, yes}
 use Rattle.circuit.specs.Records.{encodeNode, nodesOf, encodeOutput, outputsOf, outputAt}
-use Rattle.circuit.specs.Circuits.{Circuit, filled, readAnswer, nodeWords, outputWords}
+use Rattle.circuit.specs.Circuits.{Circuit, readAnswer}
 use Rattle.circuit.proofs.Codes.{node-wide, output-wide, length-nodes}
 use Rattle.circuit.proofs.Checks.{no-fault, not-refused}
 use Rattle.text.specs.Bytes.{isAscii}
 use Rattle.text.specs.Joining.{joinedText, Joins}
-use Rattle.names.specs.Chains.{Table, entries}
 use Rattle.names.proofs.Orders.{empty-table}
-use Rattle.reading.specs.declared.records.Counts.{Counts}
 use Rattle.reading.specs.declared.outputs.Ended.{Ended}
 use Rattle.reading.specs.Reading.{Places, placesIn, bytesFault, textFault}
-use Rattle.reading.specs.Holding.{outcome, NodesKept, Kept, WordsKept, OutputsKept, Ends}
-use Rattle.reading.specs.Areas.{readText, joinedBytes, Leaves, Zeroed, JoinedIn, Readied}
+use Rattle.reading.specs.Holding.{outcome, Kept, WordsKept, Ends}
+use Rattle.reading.specs.Areas.{readText, Leaves, Zeroed, JoinedIn}
 
 -- ---- the areas made ready
 

@@ -2,13 +2,13 @@
 -- Assumes nothing.
 use Prim.Native.Nat.{ℕ, zero, suc, _+_, _-_, _*_, _≤_, _<_}
 use mathlib.Core.Path.{_≡_, refl, sym, ap, ap₂, _∙_}
-use mathlib.Core.Bool.{Bool, true, false, cond}
+use mathlib.Core.Bool.{Bool}
 use mathlib.Core.List.{List, [], _∷_, _++_, map, append-assoc, append-nil}
-use native.Mathlib.Nat.{add-zero, le-of-suc-le-suc, not-suc-le-zero}
+use native.Mathlib.Nat.{le-of-suc-le-suc, not-suc-le-zero}
 use native.Mathlib.Numerals.{add-one}
 use native.Mathlib.Omega.{arith}
 use lib.ListN.{length, getD, replicate, set, take, drop, length-set}
-use lib.Seq.{map-set-same, take-suc-set, take-all, drop-cons, drop-length, take-length}
+use lib.Seq.{map-set-same, take-suc-set, take-all, drop-cons, drop-length}
 use lib.Dec.{lit<}
 use Rattle.laws.specs.Areas.{encodes, stored, upFrom}
 use Rattle.laws.proofs.Areas.{length-up, set-record}
@@ -23,10 +23,9 @@ use Rattle.circuit.specs.Records.{wireOf, wireWord, encodeOutput, outputsOf}
 use Rattle.circuit.proofs.Codes.{outputs-of-area}
 use Rattle.text.specs.declared.words.Word.{Word}
 use Rattle.names.specs.Names.{Entry}
-use Rattle.names.specs.declared.Found.{Found}
 use Rattle.names.specs.declared.Found.the-variants.{At, Nothing}
 use Rattle.reading.specs.Reading.{find, Out, outputOf, resolve, closed}
-use Rattle.reading.specs.Holding.{outcome, outputWord, wordsOf, encodeWord, InText, outAt, outsOf, encodeOut, Resolved, OutputsKept}
+use Rattle.reading.specs.Holding.{outputWord, wordsOf, encodeWord, InText, outAt, outsOf, encodeOut, Resolved}
 use Rattle.reading.proofs.Steps.{length-words}
 
 abbrev outFrom : (ℕ → ℕ) → Out

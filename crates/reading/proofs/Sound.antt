@@ -1,14 +1,13 @@
 -- What has been read so far is sound: each node keeps the rules at its place, and each name's wire is there. At the end the circuit check accepts.
 -- Assumes nothing.
-use Prim.Native.Nat.{ℕ, zero, suc, _+_, _≤_, _<_}
+use Prim.Native.Nat.{ℕ, _+_, _≤_, _<_}
 use mathlib.Core.Path.{_≡_, refl, sym, ap, _∙_, subst}
-use mathlib.Core.Bool.{Bool, true, false, cond, _&&_, _||_}
+use mathlib.Core.Bool.{Bool, true, false, cond, _&&_}
 use mathlib.Core.List.{List, [], _∷_, _++_, map}
 use native.Mathlib.Nat.{zero-add}
 use native.Mathlib.Omega.{arith}
 use lib.Dec.{ltb}
 use lib.ListN.{length, length-append}
-use Rattle.laws.specs.Lists.{some}
 use Rattle.laws.specs.Stretches.{sameBytes, All}
 use Rattle.laws.proofs.Stretches.{all-map}
 use Rattle.circuit.specs.declared.refusals.Checked.the-variants.{Sound}
@@ -16,9 +15,8 @@ use Rattle.circuit.specs.declared.refusals.Refusal.the-variants.{NoRoom}
 use Rattle.circuit.specs.declared.records.BoolWire.{BoolWire}
 use Rattle.circuit.specs.declared.records.BoolNode.{BoolNode}
 use Rattle.circuit.specs.declared.records.Output.{Output}
-use Rattle.circuit.specs.Refusals.{Try, no, yes, andThen, need}
-use Rattle.circuit.specs.Records.{wireOf}
-use Rattle.circuit.specs.Check.{notBelow, someNotBelow, checkCircuit}
+use Rattle.circuit.specs.Refusals.{Try, no, yes, andThen}
+use Rattle.circuit.specs.Check.{someNotBelow, checkCircuit}
 use Rattle.circuit.specs.Circuits.{Circuit}
 use Rattle.circuit.proofs.Tries.{no-yes, yes-same, then-yes, need-yes}
 use Rattle.circuit.proofs.Sitting.{Sits, AllSit, sit-more, circuit-checked, word-below, input-sits}
@@ -27,7 +25,7 @@ use Rattle.text.specs.declared.words.Word.{Word}
 use Rattle.names.specs.Names.{Entry, nameOf, lookup}
 use Rattle.names.specs.declared.Found.{Found}
 use Rattle.names.specs.declared.Found.the-variants.{At, Nothing}
-use Rattle.reading.specs.Reading.{Places, Held, State, find, unlessDefined, driver, addName, withNames, addNode, addAlias, addNamed, inputNode, addInput, addOutput, each, Out, outputOf, resolve, closed, finish}
+use Rattle.reading.specs.Reading.{Places, Held, State, find, unlessDefined, driver, addName, withNames, addNode, addAlias, addNamed, inputNode, addInput, each, Out, outputOf, resolve, closed, finish}
 
 -- each entry's wire is a constant or a node below m
 abbrev pub Wired : ℕ → List Entry → Type 0

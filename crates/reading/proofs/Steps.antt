@@ -1,30 +1,28 @@
 -- Laws of the steps that add names, nodes, inputs and output words.
 -- Assumes nothing.
-use Prim.Native.Nat.{ℕ, zero, suc, _+_, _-_, _*_, _≤_, _<_}
-use mathlib.Core.Path.{_≡_, refl, sym, ap, ap₂, _∙_}
-use mathlib.Core.Bool.{Bool, true, false, cond}
+use Prim.Native.Nat.{ℕ, zero, suc, _+_, _-_, _≤_, _<_}
+use mathlib.Core.Path.{_≡_, refl, ap}
+use mathlib.Core.Bool.{Bool, true, false}
 use mathlib.Core.List.{List, [], _∷_, _++_}
-use native.Mathlib.Omega.{arith}
 use lib.ListN.{length}
 use borrow.Author.Tests.{lt-ltb, le-ltb}
-use Rattle.laws.specs.Areas.{encodes, stored, capacity}
-use Rattle.laws.specs.Stretches.{stretch, sameBytes, All}
+use Rattle.laws.specs.Stretches.{sameBytes}
 use Rattle.laws.proofs.Stretches.{all-append}
 use Rattle.circuit.specs.declared.refusals.Refusal.{Refusal}
 use Rattle.circuit.specs.declared.refusals.Refusal.the-variants.{NoRoom, DefinedBefore}
 use Rattle.circuit.specs.declared.refusals.Checked.{Checked}
 use Rattle.circuit.specs.declared.refusals.Checked.the-variants.{Sound, Refused}
 use Rattle.circuit.specs.declared.records.BoolNode.{BoolNode}
-use Rattle.circuit.specs.Refusals.{Try, no, yes, andThen, need, checkThen}
+use Rattle.circuit.specs.Refusals.{no, yes}
 use Rattle.circuit.specs.Records.{nodesOf}
 use Rattle.circuit.proofs.Codes.{length-nodes}
-use Rattle.text.specs.Words.{words, nextWord, bytesOf}
+use Rattle.text.specs.Words.{bytesOf}
 use Rattle.text.specs.declared.words.Word.{Word}
 use Rattle.names.specs.Names.{Entry, lookup}
 use Rattle.names.specs.Chains.{entries}
 use Rattle.names.specs.declared.Found.{Found}
 use Rattle.names.specs.declared.Found.the-variants.{At, Nothing}
-use Rattle.reading.specs.Reading.{Places, Held, find, addName, withNames, addNode, addNamed, inputNode, addInput, addOutput, each}
+use Rattle.reading.specs.Reading.{Places, Held, find, addName, withNames, addNode, addNamed, inputNode, addInput, addOutput}
 use Rattle.reading.specs.Holding.{outcome, wordsOf, outputWord, InText}
 use Rattle.laws.proofs.Areas.{length-up}
 

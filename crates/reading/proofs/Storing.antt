@@ -1,19 +1,19 @@
 -- Areas that are in order stay so with a record more.
 -- Assumes nothing.
-use Prim.Native.Nat.{ℕ, zero, suc, _+_, _-_, _*_, _/_, _≤_, _<_}
-use mathlib.Core.Path.{_≡_, refl, sym, ap, _∙_}
+use Prim.Native.Nat.{ℕ, suc, _+_, _-_, _*_, _/_, _≤_, _<_}
+use mathlib.Core.Path.{_≡_, refl}
 use mathlib.Core.List.{List, [], _∷_, _++_}
 use native.Mathlib.Nat.{mul-le-mul-right, div-mul-le-self, suc-mul}
 use native.Mathlib.Omega.{arith}
 use lib.ListN.{length, getD, replicate}
 use lib.Dec.{lit<}
-use Rattle.laws.specs.Areas.{encodes, stored, upFrom, capacity}
+use Rattle.laws.specs.Areas.{encodes, stored, capacity}
 use Rattle.laws.proofs.Storing.{more-list, more-clean}
 use Rattle.circuit.specs.declared.records.BoolNode.{BoolNode}
 use Rattle.circuit.specs.Records.{encodeNode, nodesOf}
 use Rattle.circuit.proofs.Codes.{next-nodes, next-nodes-clean}
 use Rattle.text.specs.declared.words.Word.{Word}
-use Rattle.reading.specs.Holding.{NodesKept, outputWord, wordsOf, encodeWord}
+use Rattle.reading.specs.Holding.{NodesKept, wordsOf, encodeWord}
 
 -- below the capacity there is room for one record more
 pub room-of : (width words n : ℕ) → 0 < width → n < capacity width words → n * width + width ≤ words

@@ -10,7 +10,7 @@ use Rattle.laws.specs.Stretches.{All}
 use Rattle.circuit.specs.declared.refusals.Checked.{Checked}
 use Rattle.circuit.specs.declared.refusals.Checked.the-variants.{Sound}
 use Rattle.circuit.specs.declared.records.BoolNode.{BoolNode}
-use Rattle.circuit.specs.Refusals.{Try, no, yes, andThen, checkThen}
+use Rattle.circuit.specs.Refusals.{Try, yes, andThen, checkThen}
 use Rattle.circuit.specs.Records.{encodeNode, nodesOf, encodeOutput, outputsOf}
 use Rattle.circuit.specs.Circuits.{Circuit}
 use Rattle.text.specs.declared.words.Word.{Word}
@@ -20,7 +20,7 @@ use Rattle.names.specs.declared.Found.{Found}
 use Rattle.names.specs.declared.Found.the-variants.{At, Nothing}
 use Rattle.reading.specs.declared.records.Counts.{Counts}
 use Rattle.reading.specs.declared.outputs.Ended.{Ended}
-use Rattle.reading.specs.Reading.{Held, State, Places, Out, resolve, closed, finish}
+use Rattle.reading.specs.Reading.{Held, State, Out, resolve, closed}
 
 -- a fault of the code, or what it leaves
 abbrev pub outcome : {A : Type 0} → Checked → A → Try A

@@ -1,7 +1,7 @@
 -- What the readers of joined texts share: text faults, the circuit and the names so far, a record more, the outputs at the end.
 -- Assumes nothing.
-use Prim.Native.Nat.{ℕ, zero, suc, _+_}
-use mathlib.Core.Bool.{Bool, true, false, cond, not, _&&_}
+use Prim.Native.Nat.{ℕ, _+_}
+use mathlib.Core.Bool.{Bool, false, cond, not, _&&_}
 use mathlib.Core.List.{List, [], _∷_, _++_, map}
 use lib.ListN.{length}
 use lib.Dec.{ltb, leb}
@@ -13,7 +13,7 @@ use Rattle.circuit.specs.declared.records.BoolWire.the-variants.{Const}
 use Rattle.circuit.specs.declared.records.Name.the-variants.{Stretch}
 use Rattle.circuit.specs.declared.records.BoolNode.{BoolNode}
 use Rattle.circuit.specs.declared.records.Output.{Output}
-use Rattle.circuit.specs.Refusals.{refuseIf, firstFault, Try, no, yes, andThen, need, checkThen}
+use Rattle.circuit.specs.Refusals.{refuseIf, firstFault, Try, no, yes, andThen, need}
 use Rattle.circuit.specs.Records.{wireOf}
 use Rattle.circuit.specs.Circuits.{Circuit}
 use Rattle.text.specs.Bytes.{isAscii}

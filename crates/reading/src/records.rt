@@ -1,7 +1,6 @@
 // The nodes and names of a circuit as it is read: a record more, or the refusal.
 ghost use mathlib.Core.Path.{_≡_};
-ghost use mathlib.Core.List.{[], _∷_};
-ghost use Prim.Native.Nat.{ℕ, _+_, _*_, _≤_, _<_, _^_};
+ghost use Prim.Native.Nat.{_+_, _≤_, _<_, _^_};
 ghost use lib.ListN.{length};
 ghost use Rattle.laws.specs.Areas.{capacity};
 ghost use Rattle.circuit.specs.Records.{wireWord, nodesOf};

@@ -7,7 +7,7 @@ use Prim.Native.Nat.{ℕ, zero, suc, _+_, _-_, _*_, _<_, _≤_}
 use native.Mathlib.Omega.{arith}
 use lib.Dec.{eqb, ltb}
 use borrow.Author.Tests.{eqb-true, eqb-false, ltb-true, ltb-false, lt-ltb}
-use lib.ListN.{length, getD, set, take, drop, length-set}
+use lib.ListN.{length, getD, set, take, length-set}
 use lib.Seq.{getD-set-same, getD-set-other}
 use Rattle.laws.proofs.Filling.{take-next}
 use Rattle.circuit.specs.Records.{nodeAt, nodesOf, isCellNode}

@@ -1,6 +1,5 @@
-use mathlib.Core.Path.{_≡_, refl, sym, ap, _∙_}
-use native.Mathlib.Omega.{arith}
-use lib.ListN.{length, take}
+use mathlib.Core.Path.{sym}
+use lib.ListN.{take}
 use denote.Ref.{now}
 use lib.Seq.{length-take-le}
 use Rattle.assurance.proofs.Carrying.{ran-then-evaluated}

@@ -1,6 +1,4 @@
-use Prim.Native.Nat.{ℕ, _+_, _-_, _≤_, _<_}
-use mathlib.Core.Path.{_≡_, refl, sym, ap, _∙_}
-use native.Mathlib.Omega.{arith}
+use Prim.Native.Nat.{_-_}
 use lib.ListN.{length}
 use Rattle.reading.specs.Holding.{heldOf, wordsOf, stateOf}
 use Rattle.bench.proofs.LineLaws.{declare-input, declare-output, declare-other}

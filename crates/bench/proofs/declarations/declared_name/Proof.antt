@@ -1,7 +1,5 @@
-use Prim.Native.Nat.{ℕ, _+_, _-_, _≤_, _<_}
-use mathlib.Core.Path.{_≡_, refl, sym, ap, _∙_}
+use Prim.Native.Nat.{_-_}
 use native.Mathlib.Omega.{arith}
-use lib.ListN.{length}
 use Rattle.bench_invocations.specs.Invocations.{between}
 use Rattle.bench_invocations.proofs.Parts.{arguments-some}
 use Rattle.bench.proofs.Planning.{name-refused, name-malformed, not-one-name, one-name}

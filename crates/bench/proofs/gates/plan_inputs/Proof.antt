@@ -1,7 +1,4 @@
-use Prim.Native.Nat.{ℕ, _+_, _-_, _≤_, _<_}
-use mathlib.Core.Path.{_≡_, refl, sym, ap, _∙_}
-use native.Mathlib.Omega.{arith}
-use lib.ListN.{length}
+use Prim.Native.Nat.{_-_}
 use Rattle.names.specs.Chains.{entries}
 use Rattle.bench.proofs.Planning.{plan-refused, invoked-refused, inputs-refused, plan-made}
 use borrow.Author.Needs.{needs}

@@ -1,11 +1,10 @@
 -- `read_lines` meets its contract: the lines that are left give what all give.
 -- Assumes nothing.
-use Prim.Native.Nat.{ℕ, _+_, _-_, _≤_, _<_}
-use mathlib.Core.Path.{_≡_, refl, sym, ap, _∙_}
+use Prim.Native.Nat.{_-_}
+use mathlib.Core.Path.{_≡_, refl, _∙_}
 use native.Mathlib.Omega.{arith}
 use lib.ListN.{length}
 use borrow.Author.Needs.{needs}
-use Rattle.laws.specs.Stretches.{stretch}
 use Rattle.text.specs.Lines.{lines}
 use Rattle.reading.specs.Reading.{placesIn, start, each}
 use Rattle.reading.specs.Holding.{stateOf, Kept, WordsKept}

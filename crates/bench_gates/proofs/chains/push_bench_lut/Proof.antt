@@ -1,6 +1,5 @@
-use Prim.Native.Nat.{ℕ, _+_, _-_, _≤_, _<_}
-use mathlib.Core.Path.{_≡_, refl, sym, ap, _∙_}
-use native.Mathlib.Omega.{arith}
+use Prim.Native.Nat.{ℕ, _-_}
+use mathlib.Core.Path.{ap, _∙_}
 use lib.ListN.{length}
 use denote.Ref.{now}
 use Rattle.laws.specs.Areas.{capacity}
@@ -8,7 +7,7 @@ use Rattle.circuit.specs.declared.records.BoolNode.{BoolNode}
 use Rattle.circuit.specs.Records.{nodesOf}
 use Rattle.reading.specs.Reading.{addNode}
 use Rattle.bench_gates.specs.Operations.{truthTable}
-use Rattle.bench_gates.specs.Gates.{cell, stepCell, stepName}
+use Rattle.bench_gates.specs.Gates.{cell, stepName}
 use Rattle.bench_gates.proofs.Chaining.{cell-is}
 use borrow.Author.Needs.{needs}
 use Rattle.bench_gates.proofs.chains.push_bench_lut.Statement.{statement}

@@ -1,6 +1,5 @@
 -- `lower_buffer`: the name, if there is one input.
 -- Assumes nothing.
-use mathlib.Core.Path.{_≡_}
 use borrow.Author.Tests.{eq-eqb, ne-eqb}
 use borrow.Author.Needs.{needs}
 use Rattle.bench_gates.proofs.gates.lower_buffer.Statement.{statement}

@@ -1,24 +1,16 @@
 -- `lower_chain`: two and three inputs are made from the kept wires, more are looked up again.
 -- Assumes nothing.
-use mathlib.Core.List.{List}
-use Prim.Native.Nat.{ℕ, suc, _+_, _-_, _≤_, _<_}
-use mathlib.Core.Path.{_≡_, refl, sym, ap, _∙_}
+use Prim.Native.Nat.{_-_}
+use mathlib.Core.Path.{sym, ap, _∙_}
 use native.Mathlib.Omega.{arith}
 use lib.ListN.{length}
 use denote.Ref.{now}
-use Rattle.circuit.specs.declared.refusals.Checked.{Checked}
-use Rattle.circuit.specs.declared.refusals.Checked.the-variants.{Sound, Refused}
-use Rattle.circuit.specs.declared.records.BoolNode.{BoolNode}
-use Rattle.circuit.specs.Refusals.{checkThen}
 use Rattle.circuit.specs.Records.{nodesOf}
-use Rattle.text.specs.declared.words.Word.{Word}
 use Rattle.names.specs.Chains.{entries}
 use Rattle.reading.specs.Reading.{placesIn}
-use Rattle.reading.specs.Holding.{outcome, heldOf}
+use Rattle.reading.specs.Holding.{heldOf}
 use Rattle.bench_invocations.specs.Walks.{argumentsFrom}
 use Rattle.bench_invocations.proofs.Parts.{arguments-some}
-use Rattle.bench_gates.specs.Gates.{withNodes}
-use Rattle.bench_gates.specs.Walks.{chainWords}
 use Rattle.bench_gates.specs.declared.operations.Operation.the-variants.{Chain}
 use Rattle.bench_gates.specs.Gates.{lowerGate}
 use Rattle.bench_gates.proofs.Lowering.{too-few, chain-made, pair-made, triple-made, no-driver}

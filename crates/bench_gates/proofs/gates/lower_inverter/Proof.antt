@@ -1,6 +1,6 @@
 -- `lower_inverter`: the cell and its name, if there is one input.
 -- Assumes nothing.
-use mathlib.Core.Path.{_≡_, ap, _∙_}
+use mathlib.Core.Path.{ap, _∙_}
 use lib.ListN.{length}
 use borrow.Author.Tests.{eq-eqb, ne-eqb}
 use Rattle.circuit.specs.declared.records.BoolNode.{BoolNode}

@@ -1,12 +1,11 @@
 -- `input_wires`: the wires so far, of which the first three are kept.
 -- Assumes nothing.
-use Prim.Native.Nat.{ℕ, _+_, _-_, _≤_, _<_}
-use mathlib.Core.Path.{_≡_, sym, ap, _∙_}
+use Prim.Native.Nat.{_+_, _-_, _≤_}
+use mathlib.Core.Path.{sym, ap, _∙_}
 use native.Mathlib.Omega.{arith}
 use Rattle.names.specs.Chains.{entries}
 use Rattle.bench_invocations.specs.Walks.{argumentsFrom}
 use Rattle.bench_invocations.proofs.Parts.{arguments-over}
-use Rattle.bench_gates.specs.Gates.{inputWires}
 use Rattle.bench_gates.specs.Walks.{faultOf}
 use Rattle.bench_gates.proofs.Drivers.{Walking, walking-start, walking-stop, walking-more, walking-end, noWires, no-wires}
 use borrow.Author.Needs.{needs}

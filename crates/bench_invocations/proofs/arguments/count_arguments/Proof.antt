@@ -1,7 +1,6 @@
-use Prim.Native.Nat.{ℕ, _+_, _-_, _≤_, _<_}
-use mathlib.Core.Path.{_≡_, refl, sym, ap, _∙_}
+use Prim.Native.Nat.{_+_, _-_, _≤_}
+use mathlib.Core.Path.{_≡_, refl, _∙_}
 use native.Mathlib.Omega.{arith}
-use borrow.Author.Needs.{needs}
 use Rattle.bench_invocations.specs.Walks.{argumentsFrom, counted}
 use Rattle.bench_invocations.proofs.Parts.{arguments-over}
 use Rattle.bench_invocations.proofs.Counting.{count-end, count-empty, count-on}

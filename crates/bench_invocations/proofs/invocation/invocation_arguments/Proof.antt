@@ -1,4 +1,4 @@
-use mathlib.Core.Path.{_≡_, refl, sym, ap, _∙_}
+use mathlib.Core.Path.{sym, ap, _∙_}
 use native.Mathlib.Omega.{arith}
 use Rattle.circuit.specs.declared.refusals.Checked.{Checked}
 use Rattle.reading.specs.Holding.{outcome}

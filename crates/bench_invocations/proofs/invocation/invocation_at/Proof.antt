@@ -1,4 +1,3 @@
-use native.Mathlib.Omega.{arith}
 use Rattle.bench_invocations.proofs.Parsing.{malformed, lacks-opening, lacks-closing, more-after, lacks-operation, has-operation}
 use borrow.Author.Needs.{needs}
 use Rattle.bench_invocations.proofs.invocation.invocation_at.Statement.{statement}

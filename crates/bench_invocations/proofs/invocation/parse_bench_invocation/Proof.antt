@@ -1,4 +1,3 @@
-use native.Mathlib.Omega.{arith}
 use Rattle.bench_invocations.proofs.Parsing.{parsed}
 use borrow.Author.Needs.{needs}
 use Rattle.bench_invocations.proofs.invocation.parse_bench_invocation.Statement.{statement}

@@ -1,8 +1,8 @@
-use mathlib.Core.Path.{_≡_, refl, sym, ap, _∙_}
-use Prim.Native.Nat.{ℕ, _+_, _-_, _*_, _≤_, _<_, zero-le}
-use mathlib.Core.List.{List, [], _∷_, _++_, append-nil}
+use mathlib.Core.Path.{_≡_, refl, _∙_}
+use Prim.Native.Nat.{_+_, _-_, _≤_, zero-le}
+use mathlib.Core.List.{_++_, append-nil}
 use native.Mathlib.Omega.{arith}
-use lib.ListN.{length, getD, set, take, drop, replicate, length-set}
+use lib.ListN.{length, drop, replicate, length-set}
 use denote.Ref.{now}
 use lib.Seq.{drop-length}
 use borrow.Author.Fill.{fill-more}

@@ -1,7 +1,5 @@
-use mathlib.Core.Path.{sym, ap, _∙_}
-use mathlib.Core.Bool.{Bool, _||_}
-use Rattle.circuit.specs.Records.{wiresOf}
-use Rattle.circuit.specs.Check.{someNotBelow, recordBroken, nodeBroken}
+use mathlib.Core.Path.{sym, _∙_}
+use Rattle.circuit.specs.Check.{nodeBroken}
 use borrow.Author.Needs.{needs}
 use Rattle.circuit.proofs.check.node_broken.Statement.{statement}
 use Rattle.circuit.proofs.check.node_broken.Tie as tie

@@ -1,7 +1,6 @@
 -- `put_part`: nothing past the text's end, or what is there of the stretch.
 -- Assumes nothing.
 use Rattle.listing.proofs.PieceLaws.{put-past, put-rest, put-inside}
-use native.Mathlib.Omega.{arith}
 use borrow.Author.Needs.{needs}
 use Rattle.listing.proofs.pieces.put_part.Statement.{statement}
 use Rattle.listing.proofs.pieces.put_part.Tie as tie

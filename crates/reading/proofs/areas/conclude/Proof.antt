@@ -1,4 +1,3 @@
-use mathlib.Core.Path.{_≡_, refl, sym, ap, _∙_}
 use lib.ListN.{length}
 use denote.Ref.{now}
 use Rattle.reading.proofs.Outer.{concluded-refused, concluded-sound}

@@ -1,21 +1,8 @@
 use borrow.Author.Tests.{not-true, not-false}
-use mathlib.Core.Path.{_≡_, refl, sym, ap, _∙_}
-use mathlib.Core.List.{List, [], _∷_, _++_}
-use Prim.Native.Nat.{ℕ, _+_, _-_, _*_, _≤_, _<_}
-use native.Mathlib.Omega.{arith}
-use lib.Dec.{lit<}
-use lib.ListN.{length}
+use mathlib.Core.Path.{sym, _∙_}
+use Prim.Native.Nat.{_-_}
 use denote.Ref.{now}
-use Rattle.laws.specs.Areas.{capacity}
-use Rattle.circuit.specs.declared.refusals.Checked.{Checked}
-use Rattle.circuit.specs.declared.refusals.Checked.the-variants.{Sound, Refused}
-use Rattle.circuit.specs.declared.records.BoolNode.{BoolNode}
-use Rattle.circuit.specs.Records.{nodesOf}
-use Rattle.circuit.specs.Refusals.{Try, no, yes}
-use Rattle.text.specs.declared.words.Word.{Word}
 use Rattle.names.specs.Chains.{entries}
-use Rattle.reading.specs.Reading.{placesIn, addNamed}
-use Rattle.reading.specs.Holding.{outcome, heldOf}
 use Rattle.reading.proofs.Steps.{find-false, find-true, find-other, find-plain}
 use borrow.Author.Needs.{needs}
 use Rattle.reading.proofs.records.find_wire.Statement.{statement}

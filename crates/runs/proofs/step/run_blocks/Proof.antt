@@ -1,12 +1,10 @@
 -- `run_blocks` meets its contract. The invariant: the entries of the blocks passed are gone through, and the lead is no greater than the count.
 -- Assumes nothing.
 use mathlib.Core.Path.{_≡_, refl, _∙_, subst}
-use mathlib.Core.List.{List}
-use mathlib.Core.Bool.{Bool, true, false}
+use mathlib.Core.Bool.{true, false}
 use Prim.Native.Nat.{ℕ, _-_, _≤_, zero-le}
 use native.Mathlib.Omega.{arith}
 use lib.ListN.{length}
-use borrow.Author.Needs.{needs}
 use Rattle.runs.specs.Steps.{Through}
 use Rattle.runs.proofs.Through.{through-none, through-then, through-remarked, through-is, through-stopped}
 use Rattle.runs.proofs.step.run_blocks.Statement.{statement}

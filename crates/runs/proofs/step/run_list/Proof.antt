@@ -1,7 +1,6 @@
 -- `run_list` meets its contract. The invariant: the entries passed are gone through.
 -- Assumes nothing.
 use mathlib.Core.Path.{_≡_, refl, _∙_, subst}
-use mathlib.Core.List.{List}
 use mathlib.Core.Bool.{true, false}
 use Prim.Native.Nat.{ℕ, _+_, _-_, _<_, _≤_}
 use native.Mathlib.Omega.{arith}

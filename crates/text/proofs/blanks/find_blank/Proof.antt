@@ -1,7 +1,7 @@
 -- `find_blank`: up to the first byte from 9 to 32 there is no blank.
 -- Assumes nothing.
-use Prim.Native.Nat.{_+_, _-_}
-use mathlib.Core.Path.{_≡_, sym, ap, _∙_}
+use Prim.Native.Nat.{_-_}
+use mathlib.Core.Path.{sym, ap, _∙_}
 use mathlib.Core.Bool.{not}
 use native.Mathlib.Omega.{arith}
 use Rattle.laws.proofs.Stretches.{run-stop, run-end}

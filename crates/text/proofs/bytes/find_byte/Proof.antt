@@ -1,6 +1,6 @@
 -- `find_byte`: a byte from x to x is x.
 -- Assumes nothing.
-use Prim.Native.Nat.{_+_, _-_}
+use Prim.Native.Nat.{_-_}
 use native.Mathlib.Omega.{arith}
 use Rattle.laws.specs.Stretches.{stretch}
 use Rattle.text.proofs.RunLaws.{other-byte}

@@ -1,7 +1,7 @@
 -- `find_between`: what is left has as many bytes before the first between the two as there were, less those passed.
 -- Assumes nothing.
 use Prim.Native.Nat.{_+_, _-_, _≤_, min}
-use mathlib.Core.Path.{_≡_, sym, _∙_}
+use mathlib.Core.Path.{_≡_}
 use native.Mathlib.Omega.{arith}
 use Rattle.laws.specs.Stretches.{stretch, run}
 use Rattle.laws.proofs.Stretches.{run-end}

@@ -1,6 +1,5 @@
 -- `is_between`: both ends.
 -- Assumes nothing.
-use mathlib.Core.Path.{_≡_, sym}
 use borrow.Author.Tests.{le-leb, lt-leb}
 use Rattle.text.proofs.eights.is_between.Statement.{statement}
 use Rattle.text.proofs.eights.is_between.Tie as tie

@@ -1,6 +1,5 @@
 -- `kept_before`: the line is cut at the first `#`, if that lies in it, then trimmed.
 -- Assumes nothing.
-use borrow.Author.Needs.{needs}
 use Prim.Native.Nat.{_-_}
 use mathlib.Core.Path.{ap, _∙_}
 use native.Mathlib.Omega.{arith}
