@@ -232,29 +232,19 @@ next-turn nodes count ok assignment order i h s st f =
 -- a step keeps the marks great, and what they note
 pub steppable-next : (nodes : List ℕ) (count : ℕ) (s : List ℕ) (x : ℕ) (after : List ℕ) → Steppable nodes count s → x < count → Turn nodes s x → Stepped nodes x s after → Steppable nodes count after
 steppable-next nodes count s x after p h t e =
-    record { room = p .room; stored = omega (arith, p .stored, ap length (e .stored), length-set s x (answerOf s (nodeAt nodes x))); graded = at; noted = note }
+    record { room = p .room; stored = omega (arith, p .stored, ap length (e .stored), length-set s x (answerOf s (nodeAt nodes x))); graded = λ k. at k .0; noted = λ k. at k .1 }
   where
-    note : (k : ℕ) → getD after k 0 ≡ 145 → Plain nodes k
-    note k m = go (eqb k x) refl
+    at : (k : ℕ) → (2 < getD after k 0 → 143 < getD after k 0) × (getD after k 0 ≡ 145 → Plain nodes k)
+    at k = go (eqb k x) refl
       where
-        go : (b : Bool) → eqb k x ≡ b → Plain nodes k
+        go : (b : Bool) → eqb k x ≡ b → (2 < getD after k 0 → 143 < getD after k 0) × (getD after k 0 ≡ 145 → Plain nodes k)
         go true q =
             let v : getD after k 0 ≡ answerOf s (nodeAt nodes x) = ap (λ (l : List ℕ). getD l k 0) (e .stored) ∙ ap (λ (i : ℕ). getD (set s x (answerOf s (nodeAt nodes x))) i 0) (eqb-true k x q)
             ∙ getD-set-same s x (answerOf s (nodeAt nodes x)) 0 (omega (arith, h, p .stored)) in
-            absurd (omega (arith, v, e .answered, m))
-        go false q = p .noted k (sym (ap (λ (l : List ℕ). getD l k 0) (e .stored) ∙ getD-set-other s x k (answerOf s (nodeAt nodes x)) 0 (eqb-false k x q)) ∙ m)
-
-    at : (k : ℕ) → 2 < getD after k 0 → 143 < getD after k 0
-    at k m = go (eqb k x) refl
-      where
-        go : (b : Bool) → eqb k x ≡ b → 143 < getD after k 0
-        go true q =
-            let v : getD after k 0 ≡ answerOf s (nodeAt nodes x) = ap (λ (l : List ℕ). getD l k 0) (e .stored) ∙ ap (λ (i : ℕ). getD (set s x (answerOf s (nodeAt nodes x))) i 0) (eqb-true k x q)
-            ∙ getD-set-same s x (answerOf s (nodeAt nodes x)) 0 (omega (arith, h, p .stored)) in
-            absurd (omega (arith, v, e .answered, m))
+            (λ m. absurd (omega (arith, v, e .answered, m)), λ m. absurd (omega (arith, v, e .answered, m)))
         go false q =
             let v : getD after k 0 ≡ getD s k 0 = ap (λ (l : List ℕ). getD l k 0) (e .stored) ∙ getD-set-other s x k (answerOf s (nodeAt nodes x)) 0 (eqb-false k x q) in
-            subst (λ (i : ℕ). 143 < i) (sym v) (p .graded k (subst (λ (i : ℕ). 2 < i) v m))
+            (λ m. subst (λ (i : ℕ). 143 < i) (sym v) (p .graded k (subst (λ (i : ℕ). 2 < i) v m)), λ m. p .noted k (sym v ∙ m))
 
 -- what the whole list leaves gives the outputs
 pub standing-outputs : (ns : List BoolNode) (os : List BoolWire) (assignment order s : List ℕ) → Standing ns assignment order s → fitList (graphOf ns) order ≡ true → someNotBelow (length ns) os ≡ false

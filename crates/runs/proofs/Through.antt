@@ -20,6 +20,13 @@ use Rattle.runs.specs.Steps.{Plain, Steppable, Turn, Stepped, Unmarked, 
 use Rattle.runs.proofs.Marks.{unmarked-start, unmarked-next}
 use Rattle.runs.proofs.Standing.{next-turn, turn-ready, turn-next, list-turn, list-end, list-whole, steppable-next}
 
+-- what the value of node j is once node k is noted
+record Noted (nodes s : List ℕ) (k j : ℕ) : Type 0 where
+  graded : 2 < getD (set s k 145) j 0 → 143 < getD (set s k 145) j 0
+  noted : getD (set s k 145) j 0 ≡ 145 → Plain nodes j
+  kept : getD s j 0 < 3 → getD (set s k 145) j 0 ≡ getD s j 0
+  marked : 2 < getD s j 0 → 2 < getD (set s k 145) j 0
+
 module _ (nodes : List ℕ) (count : ℕ) where
   -- ---- marks and what they note
 
@@ -43,43 +50,31 @@ module _ (nodes : List ℕ) (count : ℕ) where
       }
 
   -- one more cell is noted
-  pub remarked-next : (before s : List ℕ) (k : ℕ) → Remarked nodes count before s → k < count → 2 < getD s k 0 → Plain nodes k → Remarked nodes count before (set s k 145)
-  remarked-next before s k m h w n =
+  pub remarked-one : (s : List ℕ) (k : ℕ) → Steppable nodes count s → k < count → 2 < getD s k 0 → Plain nodes k → Remarked nodes count s (set s k 145)
+  remarked-one s k p h w n =
       record {
-        steppable = record { room = m .steppable .room; stored = omega (arith, m .steppable .stored, length-set s k 145); graded = λ j. at j .0; noted = λ j. at j .1 };
-        kept = kept;
-        marked = marked;
+        steppable = record { room = p .room; stored = omega (arith, p .stored, length-set s k 145); graded = λ j. at j .graded; noted = λ j. at j .noted };
+        kept = λ j. at j .kept;
+        marked = λ j. at j .marked;
       }
     where
-      here : (j : ℕ) → eqb j k ≡ true → getD (set s k 145) j 0 ≡ 145
-      here j q = ap (λ (i : ℕ). getD (set s k 145) i 0) (eqb-true j k q) ∙ getD-set-same s k 145 0 (omega (arith, h, m .steppable .stored))
-
-      there : (j : ℕ) → eqb j k ≡ false → getD (set s k 145) j 0 ≡ getD s j 0
-      there j q = getD-set-other s k j 145 0 (eqb-false j k q)
-
-      at : (j : ℕ) → (2 < getD (set s k 145) j 0 → 143 < getD (set s k 145) j 0) × (getD (set s k 145) j 0 ≡ 145 → Plain nodes j)
+      at : (j : ℕ) → Noted nodes s k j
       at j = go (eqb j k) refl
         where
-          go : (b : Bool) → eqb j k ≡ b → (2 < getD (set s k 145) j 0 → 143 < getD (set s k 145) j 0) × (getD (set s k 145) j 0 ≡ 145 → Plain nodes j)
-          go true q = (λ g. omega (arith, here j q), λ e. subst (Plain nodes) (sym (eqb-true j k q)) n)
-          go false q = (
-            λ g. subst (λ (v : ℕ). 143 < v) (sym (there j q)) (m .steppable .graded j (subst (λ (v : ℕ). 2 < v) (there j q) g)),
-            λ e. m .steppable .noted j (sym (there j q) ∙ e),
-          )
-
-      kept : (j : ℕ) → getD before j 0 < 3 → getD (set s k 145) j 0 ≡ getD before j 0
-      kept j g = go (eqb j k) refl
-        where
-          go : (b : Bool) → eqb j k ≡ b → getD (set s k 145) j 0 ≡ getD before j 0
-          go true q = let v : getD s j 0 ≡ getD s k 0 = ap (λ (i : ℕ). getD s i 0) (eqb-true j k q) in absurd (omega (arith, v, w, m .kept j g, g))
-          go false q = there j q ∙ m .kept j g
-
-      marked : (j : ℕ) → 2 < getD before j 0 → 2 < getD (set s k 145) j 0
-      marked j g = go (eqb j k) refl
-        where
-          go : (b : Bool) → eqb j k ≡ b → 2 < getD (set s k 145) j 0
-          go true q = omega (arith, here j q)
-          go false q = omega (arith, there j q, m .marked j g)
+          go : (b : Bool) → eqb j k ≡ b → Noted nodes s k j
+          go true q =
+              let e : j ≡ k = eqb-true j k q in
+              let v : getD (set s k 145) j 0 ≡ 145 = ap (λ (i : ℕ). getD (set s k 145) i 0) e ∙ getD-set-same s k 145 0 (omega (arith, h, p .stored)) in
+              let o : getD s j 0 ≡ getD s k 0 = ap (λ (i : ℕ). getD s i 0) e in
+              record { graded = λ g. omega (arith, v); noted = λ g. subst (Plain nodes) (sym e) n; kept = λ g. absurd (omega (arith, o, w, g)); marked = λ g. omega (arith, v) }
+          go false q =
+              let v = getD-set-other s k j 145 0 (eqb-false j k q) in
+              record {
+                graded = λ g. subst (λ (i : ℕ). 143 < i) (sym v) (p .graded j (subst (λ (i : ℕ). 2 < i) v g));
+                noted = λ g. p .noted j (sym v ∙ g);
+                kept = λ g. v;
+                marked = λ g. subst (λ (i : ℕ). 2 < i) (sym v) g;
+              }
 
   module _ (s after : List ℕ) (m : Remarked nodes count s after) where
     same-mark : (k : ℕ) → ltb 2 (getD after k 0) ≡ ltb 2 (getD s k 0)
