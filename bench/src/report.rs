@@ -8,6 +8,9 @@ use cases::{Case, Cases, Measured, cases, growth, shown};
 use std::collections::{BTreeMap, BTreeSet};
 use std::fmt::Write;
 
+/// The parts of the table "Evaluate and run".
+const RUNS: [&str; 6] = ["evaluate", "crate-evaluate", "crate-evaluator", "run", "unchecked-run", "run-refused"];
+
 fn number(n: Option<f64>) -> String {
     n.map_or("-".to_owned(), shown)
 }
@@ -153,10 +156,14 @@ left. They are not cleared between calls: what a call clears is in its time. `ro
 window (window 1 gives the storage order). `checked`: the reference's `validate_topological` is called before its `evaluate`, as who wants a circuit \
 checked has to; this library's `evaluate` and run check it in any case. `unchecked-run` is a plain loop in Rust over the same records and list without \
 any check or test of an index. `sweep` goes over all numbered assignments (the size is the number of cells).\n\
+- `mixed` is `layered` with a quarter of the cells, chosen at random, cut to their first wire (NOT or BUFF), and with a constant for the second wire \
+of one in a hundred of the others; `late` is `layered` with one wire in its last cell alone. `run-refused` is a run that this library refuses, beside the reference's `evaluate` of the sound circuit: in \
+`window-64-twice` the list ends with its first cell again, in `broken-last` the last record has a table that no cell can have.\n\
 - `crate-` is the Rust crate in `rust/`, which makes its areas, records and structs anew at each call; its `Evaluator` keeps them.\n\
 - A side that is expected to take over a second, judged by its growth so far, is left out.\n\
 - Before the times both sides' answers are compared: circuits of texts up to 100 KB, orders of up to 10,000 cells, the outputs of `evaluate` and \
-of the run without unknowns at each size. The others are timed alone; `compare/run` is what compares.\n\n\
+of the run without unknowns at each size; of a refused run the refusal's number is tested. The others are timed alone; `compare/run` is what \
+compares.\n\n\
 ## Reading, by bytes of the text\n\n{}\n\
 ## Schedule, by cells\n\n{}\n\
 ## Evaluate and run, by cells\n\n{}\n{}\n\
@@ -167,7 +174,7 @@ Bytes lent to this library's call (held at most by the Rust crate's), and the mo
         number(spreads.iter().copied().reduce(f64::max)),
         ratios(times, &["read", "crate-read"], &[10_240, 102_400, 1_048_576]),
         ratios(times, &["schedule", "crate-schedule"], &powers),
-        ratios(times, &["evaluate", "crate-evaluate", "crate-evaluator", "run", "unchecked-run"], &[100, 1_000, 10_000, 62_500, 100_000, 1_000_000]),
+        ratios(times, &RUNS, &[100, 1_000, 10_000, 62_500, 100_000, 1_000_000]),
         ratios(times, &["sweep", "crate-sweep"], &[100, 1_000]),
         growths(times),
         memories(memory)

@@ -3,8 +3,8 @@
 use crate::circuits::{Both, INPUTS};
 
 /// Up to this many nodes the list is gone through at once; above, block by block after a pass in storage order over the records that a block reaches, as the library does.
-const NEAR: usize = 16_384;
-const BLOCK: usize = 2_048;
+const NEAR: usize = 262_144;
+const BLOCK: usize = 256;
 
 pub struct Unchecked {
     answers: [u8; 144],

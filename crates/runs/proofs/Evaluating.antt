@@ -1,6 +1,7 @@
 -- The laws of `evaluate`: a cell's entry, and the two-valued storage order.
 -- Assumes nothing.
 use mathlib.Core.Path.{_≡_, refl, sym, ap, _∙_, subst}
+use mathlib.Core.Logic.{inl, inr}
 use mathlib.Core.List.{List, [], _∷_, map}
 use mathlib.Core.Bool.{true, false}
 use Prim.Native.Nat.{ℕ, zero, suc, _+_, _*_, _<_, _≤_}
@@ -14,7 +15,7 @@ use Rattle.laws.proofs.Tests.{neither, clash, false-of}
 use Rattle.circuit.specs.declared.records.BoolWire.{BoolWire}
 use Rattle.circuit.specs.declared.records.BoolWire.the-variants.{Const, Node}
 use Rattle.circuit.specs.declared.records.BoolNode.{BoolNode}
-use Rattle.circuit.specs.Records.{nodeAt, nodesOf, isCellNode, noNode, wiresOf}
+use Rattle.circuit.specs.Records.{wireOf, nodeAt, nodesOf, isCellNode, noNode, wiresOf}
 use Rattle.circuit.specs.Check.{notBelow, someNotBelow, nodeBroken}
 use Rattle.circuit.specs.Graph.{graphOf, waits}
 use Rattle.circuit.proofs.Codes.{length-nodes, node-of}
@@ -24,12 +25,13 @@ use Rattle.cells.specs.Cells.{entry, indexFrom}
 use Rattle.cells.proofs.Rule.{entry-bit}
 use Rattle.runs.specs.Values.{signalValue, answerOf, entryOf, outputsFrom, storageValues, storageOutputs, evaluated}
 use Rattle.runs.specs.Fit.{Accepted}
-use Rattle.runs.specs.Work.{EntryIs}
+use Rattle.runs.specs.Work.{Next, EntryIs}
 use Rattle.runs.specs.Steps.{Standing}
 use Rattle.runs.proofs.Storage.{Known, wires-below, value-cell, answer-entry, values-known, values-same, evaluate-same}
 use Rattle.runs.proofs.Stepping.{wires-one, wires-two}
 use Rattle.runs.proofs.Rules.{one-unbroken, two-rules, two-unbroken}
-use Rattle.runs.proofs.Turns.{accepted-at}
+use Rattle.runs.proofs.Counted.{times-few, LastWord, last-word, over-broken, last-broken}
+use Rattle.runs.proofs.Turns.{accepted-at, word-behind}
 
 -- ---- a cell's entry
 
@@ -66,6 +68,48 @@ module _ (k : ℕ) (n : BoolNode) (s : List ℕ) where
           entry = λ l. g ∙ ap (entry (n .table)) i ∙ ap (λ (ws : List BoolWire). entry (n .table) (indexFrom 0 (map (signalValue s) ws))) (sym (wires-two n cell (two-rules k n kind two h f) (λ z. omega (arith, two, z))));
           broken = λ l. absurd (omega (arith, l, g, entry-bit (n .table) (2 * v + w)));
         }
+
+-- ---- the entry of a cell with one wire more than a number
+
+module _ (nodes : List ℕ) (k more : ℕ) (s : List ℕ) (p : Next nodes k s × (nodeAt nodes k .kind ≡ 2) × (nodeAt nodes k .count ≡ more + 1) × (more < 2)) where
+  abbrev n : BoolNode
+  n = nodeAt nodes k
+
+  -- the words of its first wire and of its last
+  abbrev first : ℕ
+  first = getD nodes (k * 9 + 7) 0
+
+  abbrev last : ℕ
+  last = getD nodes (k * 9 + 7 + more) 0
+
+  pub table-over : 12 * more + 4 ≤ n .table → EntryIs k n s 2
+  table-over t = entry-broken k n s (over-broken nodes k more (p .1) (p .2) (p .3) t)
+
+  module _ (t : n .table < 12 * more + 4) (f : first < k + 2) where
+    pub last-ahead : k + 2 ≤ last → EntryIs k n s 2
+    last-ahead l = entry-broken k n s (last-broken nodes k more (p .1) (p .2) (p .3) t f l)
+
+    module _ (l : last < k + 2) (v w : ℕ) (a : v ≡ signalValue s (wireOf first)) (b : w ≡ signalValue s (wireOf last)) where
+      pub index-small : 2 * (more * v) + w < 4
+      index-small = omega (arith, a, b, times-few more v (p .3), wire-bit s k (p .0 .known) (wireOf first) (word-behind k first f), wire-bit s k (p .0 .known) (wireOf last) (word-behind k last l))
+
+      pub entry-counted : (r : ℕ) → r ≡ entry (n .table) (2 * (more * v) + w) → EntryIs k n s r
+      entry-counted r q = go (last-word nodes (k * 9) more (p .3))
+        where
+          index : (m : ℕ) → more ≡ m → r ≡ entry (n .table) (2 * (m * v) + w)
+          index m e = q ∙ ap (λ (i : ℕ). entry (n .table) (2 * (i * v) + w)) e
+
+          same : (word : ℕ) → last ≡ word → w ≡ signalValue s (wireOf word)
+          same word e = b ∙ ap (λ (i : ℕ). signalValue s (wireOf i)) e
+
+          go : LastWord nodes (k * 9) more → EntryIs k n s r
+          go (inl e) =
+              let i : 2 * (0 * v) + w ≡ w = omega arith in
+              entry-one k n s (p .1) w (same first (e .1)) (word-behind k first f) (omega (arith, p .2, e .0)) (omega (arith, t, e .0)) r (index 0 (e .0) ∙ ap (entry (n .table)) i)
+          go (inr e) =
+              let i : 2 * (1 * v) + w ≡ 2 * v + w = omega arith in
+              let second = getD nodes (k * 9 + 8) 0 in
+              entry-two k n s (p .1) v a (word-behind k first f) (omega (arith, p .2, e .0)) (omega (arith, t, e .0)) w (same second (e .1)) (word-behind k second (omega (arith, l, e .1))) r (index 1 (e .0) ∙ ap (entry (n .table)) i)
 
 -- ---- a node's value
 

@@ -7,12 +7,16 @@ pub mod Turns
 pub mod Calls
 pub mod Passing
 pub mod Rules
+pub mod Counted
 pub mod Evaluating
 pub mod Places
 pub mod Marks
 pub mod Placing
 pub mod Standing
 pub mod Through
+pub mod Walked
+pub mod Pairs
+pub mod Again
 pub mod Valuing
 pub mod Running
 pub mod Numbering

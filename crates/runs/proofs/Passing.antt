@@ -8,7 +8,7 @@ use native.Mathlib.Numerals.{add-one}
 use native.Mathlib.Omega.{arith}
 use lib.Dec.{eqb, ltb}
 use borrow.Author.Tests.{eqb-true, not-false}
-use lib.ListN.{length, getD}
+use lib.ListN.{length}
 use Rattle.laws.specs.Lists.{some}
 use Rattle.laws.proofs.Tests.{neither, clash, and-true}
 use Rattle.circuit.specs.declared.refusals.Refusal.{Refusal}
@@ -22,11 +22,9 @@ use Rattle.circuit.specs.Records.{NodeIs, nodeAt, nodesOf, wiresOf}
 use Rattle.circuit.specs.Check.{recordBroken, notBelow, someNotBelow, checkWires, checkNodes, checkCircuit, nodeBroken, whole, nodesIn, wiresIn, topologicalFault}
 use Rattle.circuit.proofs.Checks.{no-fault, not-refused, rest, scan-start, scan-end, scan-passed, below-more, is-whole, topological-whole}
 use Rattle.runs.specs.Runs.{inputCount, wrongAssignment}
-use Rattle.runs.specs.Fit.{Accepted}
 use Rattle.runs.specs.Work.{Tells, Prepared, Passing}
 use Rattle.runs.specs.Calls.{roomFault, evaluateFault}
-use Rattle.runs.proofs.Turns.{accepted-at, kind-word, node-at-is}
-use Rattle.runs.proofs.Rules.{none-broken, kind-broken}
+use Rattle.runs.proofs.Turns.{node-at-is}
 use Rattle.runs.proofs.Calls.{right-length, has-room, Room, accepted-nodes, outputs-wired, evaluate-assigned, evaluates-of}
 
 -- ---- what a test's answer tells
@@ -73,13 +71,6 @@ each-sound nodes m h = scan-start nodes m ∙ along m (omega arith) ∙ scan-end
     along : (j : ℕ) → j ≤ m → rest nodes m 0 ≡ rest nodes m j
     along zero g = refl
     along (suc j) g = along j (omega (arith, g)) ∙ scan-on nodes m j (omega (arith, g)) (h j (omega (arith, g))) ∙ ap (rest nodes m) (add-one j)
-
--- accepted nodes have known kinds
-pub kind-refused : (nodes : List ℕ) (count : ℕ) → Accepted nodes count → (k : ℕ) → k < count → (getD nodes (k * 9) 0 ≡ 1 → ⊥) → (getD nodes (k * 9) 0 ≡ 2 → ⊥) → ⊥
-kind-refused nodes count ok k h one two =
-    let p = accepted-at nodes count ok k h in
-    let w = sym (kind-word nodes k) in
-    clash (sym (kind-broken k (nodeAt nodes k) (λ e. one (w ∙ e)) (λ e. two (w ∙ e)))) (sym (none-broken k (nodeAt nodes k) (p .rules) (p .earlier)))
 
 -- ---- the calls
 

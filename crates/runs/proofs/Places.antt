@@ -1,6 +1,7 @@
 -- The laws of the place of a cell's answer in the table of answers, which a record that breaks a rule or reads a cell that waits has not.
 -- Assumes nothing.
 use mathlib.Core.Path.{_≡_, refl, sym, ap, ap₂, _∙_, subst}
+use mathlib.Core.Logic.{inl, inr}
 use mathlib.Core.List.{List, [], _∷_, map}
 use mathlib.Core.Bool.{Bool, true, false}
 use Prim.Native.Nat.{ℕ, _+_, _*_, _<_, _≤_}
@@ -13,7 +14,7 @@ use Rattle.laws.proofs.Tests.{neither, clash}
 use Rattle.circuit.specs.declared.records.BoolWire.{BoolWire}
 use Rattle.circuit.specs.declared.records.BoolWire.the-variants.{Const, Node}
 use Rattle.circuit.specs.declared.records.BoolNode.{BoolNode}
-use Rattle.circuit.specs.Records.{isCellNode, wiresOf}
+use Rattle.circuit.specs.Records.{wireOf, nodeAt, isCellNode, wiresOf}
 use Rattle.circuit.specs.Check.{notBelow, nodeBroken}
 use Rattle.cells.specs.Cells.{cellRule, AnswerTable}
 use Rattle.cells.proofs.Answers.{answer-at, rule-one}
@@ -22,6 +23,8 @@ use Rattle.runs.specs.Work.{Graded}
 use Rattle.runs.specs.Steps.{marked, Ready, PlaceOf}
 use Rattle.runs.proofs.Stepping.{wires-one, wires-two}
 use Rattle.runs.proofs.Rules.{one-unbroken, two-unbroken, two-rules}
+use Rattle.runs.proofs.Turns.{word-behind}
+use Rattle.runs.proofs.Counted.{LastWord, last-word}
 
 wire-graded : (s : List ℕ) → Graded s → (w : BoolWire) → 2 < signalValue s w → 143 < signalValue s w
 wire-graded s g (Const true) h = absurd (omega (arith, h))
@@ -105,3 +108,29 @@ module _ (x : ℕ) (n : BoolNode) (s : List ℕ) where
               let a = neither (ltb 2 (signalValue s (n .first))) (some (marked s) (n .second ∷ [])) (ap (some (marked s)) (sym wires) ∙ r .supplied) in
               let b = neither (ltb 2 (signalValue s (n .second))) false (a .1) in
               omega (arith, l, h, p, q, ltb-false 2 (signalValue s (n .first)) (a .0), ltb-false 2 (signalValue s (n .second)) (b .0))
+
+-- ---- a cell with one wire more than a number
+
+module _ (nodes : List ℕ) (x more : ℕ) (s : List ℕ) (g : Graded s) (kind : nodeAt nodes x .kind ≡ 2) (count : nodeAt nodes x .count ≡ more + 1) (few : more < 2) where
+  pub place-counted : nodeAt nodes x .table < 12 * more + 4 → getD nodes (x * 9 + 7) 0 < x + 2 → getD nodes (x * 9 + 7 + more) 0 < x + 2
+      → (v w : ℕ) → v ≡ signalValue s (wireOf (getD nodes (x * 9 + 7) 0)) → w ≡ signalValue s (wireOf (getD nodes (x * 9 + 7 + more) 0)) → PlaceOf x (nodeAt nodes x) s (9 * nodeAt nodes x .table + 3 * (more * v) + w)
+  place-counted t f l v w a b = go (last-word nodes (x * 9) more few)
+    where
+      place : (m : ℕ) → more ≡ m → 9 * nodeAt nodes x .table + 3 * (more * v) + w ≡ 9 * nodeAt nodes x .table + 3 * (m * v) + w
+      place m e = ap (λ (i : ℕ). 9 * nodeAt nodes x .table + 3 * (i * v) + w) e
+
+      same : (word : ℕ) → getD nodes (x * 9 + 7 + more) 0 ≡ word → w ≡ signalValue s (wireOf word)
+      same word e = b ∙ ap (λ (i : ℕ). signalValue s (wireOf i)) e
+
+      go : LastWord nodes (x * 9) more → PlaceOf x (nodeAt nodes x) s (9 * nodeAt nodes x .table + 3 * (more * v) + w)
+      go (inl e) =
+          let first = getD nodes (x * 9 + 7) 0 in
+          let i : 9 * nodeAt nodes x .table + 3 * (0 * v) + w ≡ 9 * nodeAt nodes x .table + w = omega arith in
+          subst (PlaceOf x (nodeAt nodes x) s) (sym (place 0 (e .0) ∙ i))
+          (place-one x (nodeAt nodes x) s g kind w (same first (e .1)) (word-behind x first f) (omega (arith, count, e .0)) (omega (arith, t, e .0)))
+      go (inr e) =
+          let first = getD nodes (x * 9 + 7) 0 in
+          let second = getD nodes (x * 9 + 8) 0 in
+          let i : 9 * nodeAt nodes x .table + 3 * (1 * v) + w ≡ 9 * nodeAt nodes x .table + 3 * v + w = omega arith in
+          subst (PlaceOf x (nodeAt nodes x) s) (sym (place 1 (e .0) ∙ i))
+          (place-two x (nodeAt nodes x) s g kind v a (word-behind x first f) (omega (arith, count, e .0)) (omega (arith, t, e .0)) w (same second (e .1)) (word-behind x second (omega (arith, l, e .1))))

@@ -13,7 +13,7 @@ use Rattle.laws.proofs.Tests.{clash, true-of, cond-true, cond-false}
 use Rattle.circuit.specs.declared.records.BoolNode.{BoolNode}
 use Rattle.circuit.specs.Records.{nodeAt, nodesOf, isCellNode}
 use Rattle.runs.specs.Runs.{putIn, inputCount}
-use Rattle.runs.specs.Work.{Passing, markCount, Fresh, isInputAt, Putting, Puttable, InputsIn}
+use Rattle.runs.specs.Work.{Passing, markCount, Graded, isInputAt, Putting, Puttable, InputsIn}
 use Rattle.runs.proofs.Turns.{accepted-at, from, from-start, from-end, put-turn, same-turn}
 use Rattle.runs.proofs.Rules.{kind-broken, none-broken}
 use Rattle.runs.proofs.Marks.{marks-set, marks-all}
@@ -40,7 +40,7 @@ module _ (nodes : List ℕ) (count : ℕ) (assignment before : List ℕ) where
     pub counted : markCount count s + p ≡ count
     pub inputs : (j : ℕ) → j < count → getD s j 0 < 3 → nodeAt nodes j .kind ≡ 1
     pub ahead : (j : ℕ) → k ≤ j → j < count → 2 < getD s j 0
-    pub fresh : Fresh s
+    pub graded : Graded s
     pub passing : Passing nodes count assignment
         → (putIn assignment 0 0 before (nodesOf nodes count) ≡ putIn assignment p k s (from nodes count k)) × (p + inputCount (from nodes count k) ≡ length assignment)
 
@@ -54,7 +54,7 @@ module _ (nodes : List ℕ) (count : ℕ) (assignment before : List ℕ) where
           counted = omega (arith, marks-all count before (a .marks));
           inputs = λ j h g. absurd (omega (arith, a .marks j h, g));
           ahead = λ j g h. a .marks j h;
-          fresh = a .fresh;
+          graded = a .graded;
           passing = λ b. (ap (putIn assignment 0 0 before) (from-start nodes count), omega (arith, ap inputCount (from-start nodes count), b .inputs));
         }
 
@@ -77,7 +77,7 @@ module _ (nodes : List ℕ) (count : ℕ) (assignment before : List ℕ) where
             counted = omega (arith, w .counted, marks-set count k v s h room (w .ahead k (omega arith) h) (a .small p));
             inputs = inputs;
             ahead = λ j g i. subst (λ (x : ℕ). 2 < x) (sym (getD-set-other s k j v 0 (omega (arith, g)))) (w .ahead j (omega (arith, g)) i);
-            fresh = fresh;
+            graded = graded;
             passing = next-passing (p + 1) (set s k v) (λ b. (sym (cond-false _ s (set s k v) other), sym (cond-false _ p (p + 1) other)));
           }
         where
@@ -97,16 +97,16 @@ module _ (nodes : List ℕ) (count : ℕ) (assignment before : List ℕ) where
               go true q = ap (λ (x : ℕ). nodeAt nodes x .kind) (eqb-true j k q) ∙ one
               go false q = w .inputs j i (subst (λ (x : ℕ). x < 3) (getD-set-other s k j v 0 (eqb-false j k q)) m)
 
-          fresh : Fresh (set s k v)
-          fresh j m = go (eqb j k) refl
+          graded : Graded (set s k v)
+          graded j m = go (eqb j k) refl
             where
-              go : (t : Bool) → eqb j k ≡ t → getD (set s k v) j 0 ≡ 144
+              go : (b : Bool) → eqb j k ≡ b → 143 < getD (set s k v) j 0
               go true q =
                   let z : getD (set s k v) j 0 ≡ v = ap (λ (x : ℕ). getD (set s k v) x 0) (eqb-true j k q) ∙ getD-set-same s k v 0 room in
                   absurd (omega (arith, z, m, a .small p))
               go false q =
                   let z = getD-set-other s k j v 0 (eqb-false j k q) in
-                  z ∙ w .fresh j (subst (λ (x : ℕ). 2 < x) z m)
+                  subst (λ (x : ℕ). 143 < x) (sym z) (w .graded j (subst (λ (x : ℕ). 2 < x) z m))
 
       next-other : (nodeAt nodes k .kind ≡ 1 → ⊥) → Put (k + 1) p s
       unfolding isCellNode
@@ -118,7 +118,7 @@ module _ (nodes : List ℕ) (count : ℕ) (assignment before : List ℕ) where
             counted = w .counted;
             inputs = w .inputs;
             ahead = λ j g i. w .ahead j (omega (arith, g)) i;
-            fresh = w .fresh;
+            graded = w .graded;
             passing = next-passing p s (λ b. (sym (cond-true _ s (set s k (getD assignment p 0)) (cell b)), sym (cond-true _ p (p + 1) (cell b))));
           }
         where
@@ -142,7 +142,7 @@ module _ (nodes : List ℕ) (count : ℕ) (assignment before : List ℕ) where
 
   module _ (k p : ℕ) (s : List ℕ) (w : Put k p s) where
     pub put-end : length assignment ≤ p → InputsIn nodes count assignment s
-    put-end l = record { counted = omega (arith, w .counted, w .few, l); inputs = w .inputs; fresh = w .fresh }
+    put-end l = record { counted = omega (arith, w .counted, w .few, l); inputs = w .inputs; graded = w .graded }
 
     pub put-whole : length assignment ≤ p → Passing nodes count assignment → s ≡ putIn assignment 0 0 before (nodesOf nodes count)
     put-whole l b = let g = w .passing b in sym (g .0 ∙ put-none assignment (from nodes count k) p k s (omega (arith, g .1, l)))

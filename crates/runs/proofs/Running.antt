@@ -18,17 +18,18 @@ use Rattle.circuit.specs.Graph.{graphOf, cellsOf, fit, fitList}
 use Rattle.circuit.proofs.Codes.{length-nodes}
 use Rattle.circuit.proofs.Checks.{no-fault, Sounds, circuit-sound}
 use Rattle.runs.specs.Values.{outputsFrom}
-use Rattle.runs.specs.Runs.{putIn, runOutputs}
-use Rattle.runs.specs.Fit.{Accepted}
-use Rattle.runs.specs.Work.{Tells, Prepared, Passing, Puttable, InputsIn}
-use Rattle.runs.specs.Steps.{Unmarked, Standing}
+use Rattle.runs.specs.Runs.{runOutputs}
+use Rattle.runs.specs.Work.{Tells, Prepared, Passing, markCount, Puttable, InputsIn}
+use Rattle.runs.specs.Steps.{Standing, Through, Walked}
 use Rattle.runs.specs.Calls.{runFault}
 use Rattle.runs.proofs.Along.{along}
 use Rattle.runs.proofs.Calls.{inputs-fit, list-fit, run-fit, runs-of, cells-of}
 use Rattle.runs.proofs.Passing.{passing-checked, passing-assigned, passing-room, prepared-of, passing-of}
 use Rattle.runs.proofs.Evaluating.{assigned-below}
 use Rattle.runs.proofs.Marks.{marks-passing}
-use Rattle.runs.proofs.Standing.{standing-marked, standing-outputs}
+use Rattle.runs.proofs.Standing.{standing-outputs}
+use Rattle.runs.proofs.Through.{through-tells}
+use Rattle.runs.proofs.Walked.{walked-end}
 
 circuit-of : (nodes outputs : List ℕ) → topologicalFault nodes outputs ≡ Sound → Sounds (nodesIn nodes) (wiresIn outputs)
 unfolding topologicalFault
@@ -36,10 +37,10 @@ circuit-of nodes outputs e = circuit-sound (nodesIn nodes) (wiresIn outputs) (no
 
 -- ---- the store
 
-fresh-marks : (n k : ℕ) → 2 < getD (replicate n 144) k 0 → _≡_ {A = ℕ} (getD (replicate n 144) k 0) 144
-fresh-marks zero k h = absurd (omega (arith, h))
-fresh-marks (suc n) zero h = refl
-fresh-marks (suc n) (suc k) h = fresh-marks n k h
+marks-great : (n k : ℕ) → 2 < getD (replicate n 144) k 0 → 143 < getD (replicate n 144) k 0
+marks-great zero k h = absurd (omega (arith, h))
+marks-great (suc n) zero h = omega arith
+marks-great (suc n) (suc k) h = marks-great n k h
 
 module _ (nodes : List ℕ) (count : ℕ) (assignment : List ℕ) (n : ℕ) (old : List ℕ) (room : count * 9 ≤ length nodes) (marks : old ≡ replicate n 144) (stored : count ≤ n) (small : some (ltb 2) assignment ≡ false) where
   -- a store of marks takes an assignment
@@ -49,26 +50,28 @@ module _ (nodes : List ℕ) (count : ℕ) (assignment : List ℕ) (n : ℕ) (old
         room = room;
         stored = omega (arith, ap length marks, length-replicate {A = ℕ} n 144, stored);
         marks = λ k h. subst (λ (v : ℕ). 2 < v) (sym (ap (λ (l : List ℕ). getD l k 0) marks ∙ getD-replicate n k 144 0 (omega (arith, h, stored)))) (omega arith);
-        fresh = λ k. subst (λ (l : List ℕ). 2 < getD l k 0 → _≡_ {A = ℕ} (getD l k 0) 144) (sym marks) (fresh-marks n k);
+        graded = λ k. subst (λ (l : List ℕ). 2 < getD l k 0 → 143 < getD l k 0) (sym marks) (marks-great n k);
         small = λ i. omega (arith, assigned-below 2 assignment small i);
       }
 
-  -- what its steps tell: all is right just where the nodes pass and the list is fit
-  pub store-tells : (order mid after : List ℕ) (r : Bool) → length order + length assignment ≡ count → InputsIn nodes count assignment mid → (Passing nodes count assignment → mid ≡ putIn assignment 0 0 old (nodesOf nodes count))
-      → (r ≡ true → Unmarked nodes count (length order) mid after)
-      → ((a : List ℕ) → Accepted nodes count → Standing (nodesOf nodes count) a [] mid → Tells r (fit (graphOf (nodesOf nodes count)) [] order ≡ true) × (r ≡ true → Standing (nodesOf nodes count) a order after))
+-- what the steps tell: all is right just where the nodes pass and the list is fit
+module _ (nodes : List ℕ) (count : ℕ) (assignment order mid after : List ℕ) (room : count * 9 ≤ length nodes) (l : length order + length assignment ≡ count) (i : InputsIn nodes count assignment mid) where
+  pub store-tells : (r : Bool) → (Passing nodes count assignment → Standing (nodesOf nodes count) assignment [] mid) → Through nodes count order 0 (length order) mid r after
       → Tells r (Passing nodes count assignment × (fit (graphOf (nodesOf nodes count)) [] order ≡ true)) × (r ≡ true → Standing (nodesOf nodes count) assignment order after)
-  store-tells order mid after true l i p u f =
-      let b = marks-passing nodes count assignment mid i after (length order) (u refl) l in
-      let ok : Accepted nodes count = record { room = room; accepted = b .accepted } in
-      let t = f assignment ok (standing-marked nodes count ok assignment n old mid marks stored small (p b)) in
-      ((b, t .0), λ e. t .1 refl)
-  store-tells order mid after false l i p u f = (
-    λ g.
-        let ok : Accepted nodes count = record { room = room; accepted = g .0 .accepted } in
-        f assignment ok (standing-marked nodes count ok assignment n old mid marks stored small (p (g .0))) .0 (g .1),
+  store-tells true p t =
+      let f = through-tells nodes count order mid after true t in
+      let b = marks-passing nodes count assignment mid i after (length order) (f .0 refl) l in
+      let g = f .1 assignment (record { room = room; accepted = b .accepted }) (p b) in
+      ((b, g .0), λ e. g .1 refl)
+  store-tells false p t = (
+    λ g. through-tells nodes count order mid after false t .1 assignment (record { room = room; accepted = g .0 .accepted }) (p (g .0)) .0 (g .1),
     λ e. absurd (false≢true e),
   )
+
+  -- the same where the steps went through: a mark that is left tells
+  pub walked-tells : (r : Bool) → (Passing nodes count assignment → Standing (nodesOf nodes count) assignment [] mid) → Walked nodes count order 0 (length order) mid after → Tells r (markCount count after ≡ 0)
+      → Tells r (Passing nodes count assignment × (fit (graphOf (nodesOf nodes count)) [] order ≡ true)) × (r ≡ true → Standing (nodesOf nodes count) assignment order after)
+  walked-tells r p w t = store-tells r p (walked-end nodes count order (length order) mid after r w (omega (arith, i .counted, l)) t)
 
 -- ---- the call
 

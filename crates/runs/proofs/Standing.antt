@@ -31,7 +31,7 @@ use Rattle.cells.proofs.Rule.{entry-bit}
 use Rattle.runs.specs.Values.{signalValue, answerOf, valuesFrom, outputsFrom, storageValues, storageOutputs}
 use Rattle.runs.specs.Runs.{putIn, step}
 use Rattle.runs.specs.Fit.{Accepted}
-use Rattle.runs.specs.Steps.{marked, Plain, Steppable, Turn, Stepped, Standing}
+use Rattle.runs.specs.Steps.{marked, Steppable, Turn, Stepped, Standing}
 use Rattle.runs.proofs.Storage.{wires-below, put-stay}
 use Rattle.runs.proofs.Along.{Right, step-right, start-right}
 use Rattle.runs.proofs.Turns.{accepted-at}
@@ -229,22 +229,22 @@ next-turn nodes count ok assignment order i h s st f =
     ready-turn nodes count ok assignment (take i order) s st (getD order i 0)
     (and-true (ready g (take i order) (getD order i 0)) (fit g (take (i + 1) order) (drop (i + 1) order)) (sym (list-turn g order i h) ∙ f) .0)
 
--- a step keeps the marks great, and what they note
-pub steppable-next : (nodes : List ℕ) (count : ℕ) (s : List ℕ) (x : ℕ) (after : List ℕ) → Steppable nodes count s → x < count → Turn nodes s x → Stepped nodes x s after → Steppable nodes count after
-steppable-next nodes count s x after p h t e =
-    record { room = p .room; stored = omega (arith, p .stored, ap length (e .stored), length-set s x (answerOf s (nodeAt nodes x))); graded = λ k. at k .0; noted = λ k. at k .1 }
+-- a step keeps the marks great
+pub steppable-next : (nodes : List ℕ) (count : ℕ) (s : List ℕ) (x : ℕ) (after : List ℕ) → Steppable nodes count s → x < count → Stepped nodes x s after → Steppable nodes count after
+steppable-next nodes count s x after p h e =
+    record { room = p .room; stored = omega (arith, p .stored, ap length (e .stored), length-set s x (answerOf s (nodeAt nodes x))); graded = at }
   where
-    at : (k : ℕ) → (2 < getD after k 0 → 143 < getD after k 0) × (getD after k 0 ≡ 145 → Plain nodes k)
+    at : (k : ℕ) → 2 < getD after k 0 → 143 < getD after k 0
     at k = go (eqb k x) refl
       where
-        go : (b : Bool) → eqb k x ≡ b → (2 < getD after k 0 → 143 < getD after k 0) × (getD after k 0 ≡ 145 → Plain nodes k)
-        go true q =
+        go : (b : Bool) → eqb k x ≡ b → 2 < getD after k 0 → 143 < getD after k 0
+        go true q m =
             let v : getD after k 0 ≡ answerOf s (nodeAt nodes x) = ap (λ (l : List ℕ). getD l k 0) (e .stored) ∙ ap (λ (i : ℕ). getD (set s x (answerOf s (nodeAt nodes x))) i 0) (eqb-true k x q)
             ∙ getD-set-same s x (answerOf s (nodeAt nodes x)) 0 (omega (arith, h, p .stored)) in
-            (λ m. absurd (omega (arith, v, e .answered, m)), λ m. absurd (omega (arith, v, e .answered, m)))
-        go false q =
+            absurd (omega (arith, v, e .answered, m))
+        go false q m =
             let v : getD after k 0 ≡ getD s k 0 = ap (λ (l : List ℕ). getD l k 0) (e .stored) ∙ getD-set-other s x k (answerOf s (nodeAt nodes x)) 0 (eqb-false k x q) in
-            (λ m. subst (λ (i : ℕ). 143 < i) (sym v) (p .graded k (subst (λ (i : ℕ). 2 < i) v m)), λ m. p .noted k (sym v ∙ m))
+            subst (λ (i : ℕ). 143 < i) (sym v) (p .graded k (subst (λ (i : ℕ). 2 < i) v m))
 
 -- what the whole list leaves gives the outputs
 pub standing-outputs : (ns : List BoolNode) (os : List BoolWire) (assignment order s : List ℕ) → Standing ns assignment order s → fitList (graphOf ns) order ≡ true → someNotBelow (length ns) os ≡ false

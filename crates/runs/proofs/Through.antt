@@ -1,105 +1,27 @@
--- The laws of the steps from one place of a list up to another, and of marks that note more.
+-- The laws of the steps from one place of a list up to another.
 -- Assumes nothing.
 use mathlib.Core.Path.{_≡_, refl, sym, ap, _∙_, subst}
 use mathlib.Core.List.{List, []}
 use mathlib.Core.Bool.{Bool, true, false, _&&_, true≢false, false≢true}
-use Prim.Native.Nat.{ℕ, zero, suc, _+_, _-_, _*_, _<_, _≤_}
+use Prim.Native.Nat.{ℕ, _+_, _-_, _<_, _≤_}
 use native.Mathlib.Omega.{arith}
-use lib.Dec.{eqb, ltb}
-use borrow.Author.Tests.{eqb-true, eqb-false, ltb-true, ltb-false, lt-ltb}
-use lib.ListN.{length, getD, set, take, length-set}
-use lib.Seq.{getD-set-same, getD-set-other}
+use lib.Dec.{ltb}
+use borrow.Author.Tests.{ltb-true, ltb-false}
+use lib.ListN.{length, getD, take}
 use Rattle.laws.proofs.Filling.{take-next}
 use Rattle.circuit.specs.Records.{nodeAt, nodesOf, isCellNode}
 use Rattle.circuit.specs.Check.{nodeBroken}
 use Rattle.circuit.specs.Graph.{graphOf, fit}
-use Rattle.circuit.proofs.Codes.{length-nodes}
 use Rattle.runs.specs.Fit.{Accepted}
-use Rattle.runs.specs.Work.{Tells, markCount, Fresh}
-use Rattle.runs.specs.Steps.{Plain, Steppable, Turn, Stepped, Unmarked, Standing, Remarked, fitFrom, Through}
+use Rattle.runs.specs.Work.{Tells}
+use Rattle.runs.specs.Steps.{Steppable, Turn, Stepped, Unmarked, Standing, fitFrom, Through}
 use Rattle.runs.proofs.Marks.{unmarked-start, unmarked-next}
-use Rattle.runs.proofs.Standing.{next-turn, turn-ready, turn-next, list-turn, list-end, list-whole, steppable-next}
-
--- what the value of node j is once node k is noted
-record Noted (nodes s : List ℕ) (k j : ℕ) : Type 0 where
-  graded : 2 < getD (set s k 145) j 0 → 143 < getD (set s k 145) j 0
-  noted : getD (set s k 145) j 0 ≡ 145 → Plain nodes j
-  kept : getD s j 0 < 3 → getD (set s k 145) j 0 ≡ getD s j 0
-  marked : 2 < getD s j 0 → 2 < getD (set s k 145) j 0
+use Rattle.runs.proofs.Standing.{next-turn, turn-ready, turn-next, list-turn, list-end, list-whole}
 
 module _ (nodes : List ℕ) (count : ℕ) where
-  -- ---- marks and what they note
-
-  pub steppable-fresh : (s : List ℕ) → count * 9 ≤ length nodes → count ≤ length s → Fresh s → Steppable nodes count s
-  steppable-fresh s room stored f =
-      record { room = room; stored = stored; graded = λ k m. omega (arith, f k m); noted = λ k e. absurd (omega (arith, e, f k (omega (arith, e)))) }
-
   -- node k alone
   pub steppable-one : (s : List ℕ) → Steppable nodes count s → (k : ℕ) → k < count → Steppable nodes (k + 1) s
-  steppable-one s p k h = record { room = omega (arith, h, p .room); stored = omega (arith, h, p .stored); graded = p .graded; noted = p .noted }
-
-  pub remarked-none : (s : List ℕ) → Steppable nodes count s → Remarked nodes count s s
-  remarked-none s p = record { steppable = p; kept = λ k h. refl; marked = λ k h. h }
-
-  pub remarked-then : (v w z : List ℕ) → Remarked nodes count v w → Remarked nodes count w z → Remarked nodes count v z
-  remarked-then v w z m n =
-      record {
-        steppable = n .steppable;
-        kept = λ k h. let e = m .kept k h in n .kept k (omega (arith, e, h)) ∙ e;
-        marked = λ k h. n .marked k (m .marked k h);
-      }
-
-  -- one more cell is noted
-  pub remarked-one : (s : List ℕ) (k : ℕ) → Steppable nodes count s → k < count → 2 < getD s k 0 → Plain nodes k → Remarked nodes count s (set s k 145)
-  remarked-one s k p h w n =
-      record {
-        steppable = record { room = p .room; stored = omega (arith, p .stored, length-set s k 145); graded = λ j. at j .graded; noted = λ j. at j .noted };
-        kept = λ j. at j .kept;
-        marked = λ j. at j .marked;
-      }
-    where
-      at : (j : ℕ) → Noted nodes s k j
-      at j = go (eqb j k) refl
-        where
-          go : (b : Bool) → eqb j k ≡ b → Noted nodes s k j
-          go true q =
-              let e : j ≡ k = eqb-true j k q in
-              let v : getD (set s k 145) j 0 ≡ 145 = ap (λ (i : ℕ). getD (set s k 145) i 0) e ∙ getD-set-same s k 145 0 (omega (arith, h, p .stored)) in
-              let o : getD s j 0 ≡ getD s k 0 = ap (λ (i : ℕ). getD s i 0) e in
-              record { graded = λ g. omega (arith, v); noted = λ g. subst (Plain nodes) (sym e) n; kept = λ g. absurd (omega (arith, o, w, g)); marked = λ g. omega (arith, v) }
-          go false q =
-              let v = getD-set-other s k j 145 0 (eqb-false j k q) in
-              record {
-                graded = λ g. subst (λ (i : ℕ). 143 < i) (sym v) (p .graded j (subst (λ (i : ℕ). 2 < i) v g));
-                noted = λ g. p .noted j (sym v ∙ g);
-                kept = λ g. v;
-                marked = λ g. subst (λ (i : ℕ). 2 < i) (sym v) g;
-              }
-
-  module _ (s after : List ℕ) (m : Remarked nodes count s after) where
-    same-mark : (k : ℕ) → ltb 2 (getD after k 0) ≡ ltb 2 (getD s k 0)
-    same-mark k = go (ltb 2 (getD s k 0)) refl
-      where
-        go : (b : Bool) → ltb 2 (getD s k 0) ≡ b → ltb 2 (getD after k 0) ≡ ltb 2 (getD s k 0)
-        go true e = lt-ltb 2 (getD after k 0) (m .marked k (ltb-true 2 (getD s k 0) e)) ∙ sym e
-        go false e = ap (ltb 2) (m .kept k (omega (arith, ltb-false 2 (getD s k 0) e)))
-
-    same-count : (n : ℕ) → markCount n after ≡ markCount n s
-    unfolding markCount
-    same-count zero = refl
-    same-count (suc n) = rw (same-mark n, same-count n)
-
-    unmarked-remarked : (i : ℕ) (z : List ℕ) → Unmarked nodes count i after z → Unmarked nodes count i s z
-    unmarked-remarked i z u = record { fewer = u .fewer ∙ same-count count; sound = λ k h g l. u .sound k h (m .marked k g) l }
-
-    standing-remarked : (assignment taken : List ℕ) → Standing (nodesOf nodes count) assignment taken s → Standing (nodesOf nodes count) assignment taken after
-    standing-remarked assignment taken st =
-        record {
-          room = omega (arith, m .steppable .stored, length-nodes nodes count);
-          right = λ k h w. let v = st .right k h w in m .kept k (omega (arith, v, st .small k)) ∙ v;
-          waiting = λ k h w. m .marked k (st .waiting k h w);
-          small = st .small;
-        }
+  steppable-one s p k h = record { room = omega (arith, h, p .room); stored = omega (arith, h, p .stored); graded = p .graded }
 
   -- ---- from place to place
 
@@ -114,11 +36,10 @@ module _ (nodes : List ℕ) (count : ℕ) where
           go false e = p .sound k h m (omega (arith, ltb-false 2 (getD w k 0) e))
 
   module _ (order : List ℕ) where
-    pub through-none : (i : ℕ) (s : List ℕ) → Steppable nodes count s → Through nodes count order i i s true s
-    through-none i s p =
+    pub through-none : (i : ℕ) (s : List ℕ) → Through nodes count order i i s true s
+    through-none i s =
         let z : 0 ≡ i - i = omega arith in
         record {
-          steppable = λ e. p;
           unmarked = λ e. subst (λ (n : ℕ). Unmarked nodes count n s s) z (unmarked-start nodes count s);
           standing = λ e a ok st. st;
           passed = λ e a ok st. refl;
@@ -129,39 +50,27 @@ module _ (nodes : List ℕ) (count : ℕ) where
     through-then i j k v w z r g h p q =
         let n : j - i + (k - j) ≡ k - i = omega arith in
         record {
-          steppable = q .steppable;
           unmarked = λ e. subst (λ (m : ℕ). Unmarked nodes count m v z) n (unmarked-then (j - i) (k - j) v w z (p .unmarked refl) (q .unmarked e));
           standing = λ e a ok st. q .standing e a ok (p .standing refl a ok st);
           passed = λ e a ok st. p .passed refl a ok st ∙ q .passed e a ok (p .standing refl a ok st);
           stopped = λ e a ok st f. q .stopped e a ok (p .standing refl a ok st) (sym (p .passed refl a ok st) ∙ f);
         }
 
-    pub through-remarked : (i j : ℕ) (v w z : List ℕ) (r : Bool) → Remarked nodes count v w → Through nodes count order i j w r z → Through nodes count order i j v r z
-    through-remarked i j v w z r m q =
-        record {
-          steppable = q .steppable;
-          unmarked = λ e. unmarked-remarked v w m (j - i) z (q .unmarked e);
-          standing = λ e a ok st. q .standing e a ok (standing-remarked v w m a (take i order) st);
-          passed = λ e a ok st. q .passed e a ok (standing-remarked v w m a (take i order) st);
-          stopped = λ e a ok st. q .stopped e a ok (standing-remarked v w m a (take i order) st);
-        }
-
     pub through-is : (i k : ℕ) (v z : List ℕ) (r b : Bool) → r ≡ b → Through nodes count order i k v r z → Through nodes count order i k v b z
     through-is i k v z r b e = subst (λ (t : Bool). Through nodes count order i k v t z) e
 
     -- where the steps stop, it is not said how far they were to go
-    stopped-at : (i k : ℕ) (v z : List ℕ) → ((a : List ℕ) → Accepted nodes count → Standing (nodesOf nodes count) a (take i order) v → fitFrom nodes count order i ≡ true → ⊥) → Through nodes count order i k v false z
+    pub stopped-at : (i k : ℕ) (v z : List ℕ) → ((a : List ℕ) → Accepted nodes count → Standing (nodesOf nodes count) a (take i order) v → fitFrom nodes count order i ≡ true → ⊥) → Through nodes count order i k v false z
     stopped-at i k v z f =
         record {
-          steppable = λ e. absurd (false≢true e);
           unmarked = λ e. absurd (false≢true e);
           standing = λ e. absurd (false≢true e);
           passed = λ e. absurd (false≢true e);
           stopped = λ e. f;
         }
 
-    pub through-stopped : (i j k : ℕ) (v z : List ℕ) → Through nodes count order i j v false z → Through nodes count order i k v false z
-    through-stopped i j k v z q = stopped-at i k v z (q .stopped refl)
+    pub through-stopped : (i j k : ℕ) (v w z : List ℕ) → Through nodes count order i j v false w → Through nodes count order i k v false z
+    through-stopped i j k v w z q = stopped-at i k v z (q .stopped refl)
 
     -- ---- one entry
 
@@ -173,7 +82,6 @@ module _ (nodes : List ℕ) (count : ℕ) where
       through-step after p d t e =
           let n : 0 + 1 ≡ i + 1 - i = omega arith in
           record {
-            steppable = λ q. steppable-next nodes count s x after p d t e;
             unmarked = λ q. subst (λ (m : ℕ). Unmarked nodes count m s after) n (unmarked-next nodes count 0 s s x after (p .stored) (unmarked-start nodes count s) d t e);
             standing = λ q a ok st.
                 let r = turn-ready nodes count ok a (take i order) s st x d t in

@@ -15,7 +15,7 @@ use Rattle.circuit.specs.Graph.{graphOf, waits, fit}
 use Rattle.cells.specs.Cells.{AnswerTable}
 use Rattle.runs.specs.Values.{signalValue, answerOf, storageValues}
 use Rattle.runs.specs.Fit.{Accepted}
-use Rattle.runs.specs.Work.{markCount, Graded, BothEarlier}
+use Rattle.runs.specs.Work.{markCount, Graded}
 
 -- the wire is of a cell that waits
 abbrev pub marked : List ℕ → BoolWire → Bool
@@ -33,19 +33,11 @@ pub record PlaceOf (x : ℕ) (n : BoolNode) (values : List ℕ) (r : ℕ) : Type
   pub answer : r < 144 → (answers : List ℕ) → AnswerTable answers → getD answers r 0 ≡ answerOf values n
   pub missed : 144 ≤ r → Ready x n values → ⊥
 
--- a cell that breaks no rule, with two wires, both of earlier nodes
-pub record Plain (nodes : List ℕ) (x : ℕ) : Type 0 where
-  pub kind : nodeAt nodes x .kind ≡ 2
-  pub count : nodeAt nodes x .count ≡ 2
-  pub table : nodeAt nodes x .table < 16
-  pub earlier : BothEarlier nodes x
-
--- records and a store for so many nodes; a mark of 145 notes that its cell is plain
+-- records and a store for so many nodes
 pub record Steppable (nodes : List ℕ) (count : ℕ) (values : List ℕ) : Type 0 where
   pub room : count * 9 ≤ length nodes
   pub stored : count ≤ length values
   pub graded : Graded values
-  pub noted : (k : ℕ) → getD values k 0 ≡ 145 → Plain nodes k
 
 -- node x may be worked out: it is marked and ready
 pub record Turn (nodes values : List ℕ) (x : ℕ) : Type 0 where
@@ -69,20 +61,38 @@ pub record Standing (ns : List BoolNode) (assignment taken values : List ℕ) : 
   pub waiting : (k : ℕ) → k < length ns → waits (graphOf ns) taken k ≡ true → 2 < getD values k 0
   pub small : (k : ℕ) → getD (storageValues ns assignment) k 0 < 3
 
--- the same values and marks, of which some note more
-pub record Remarked (nodes : List ℕ) (count : ℕ) (values after : List ℕ) : Type 0 where
-  pub steppable : Steppable nodes count after
-  pub kept : (k : ℕ) → getD values k 0 < 3 → getD after k 0 ≡ getD values k 0
-  pub marked : (k : ℕ) → 2 < getD values k 0 → 2 < getD after k 0
-
 -- what is left of a list from one place on is fit
 abbrev pub fitFrom : List ℕ → ℕ → List ℕ → ℕ → Bool
 fitFrom nodes count order i = fit (graphOf (nodesOf nodes count)) (take i order) (drop i order)
 
 -- what the steps from one place of a list up to another leave; where they stop, the list is not fit
 pub record Through (nodes : List ℕ) (count : ℕ) (order : List ℕ) (from end : ℕ) (values : List ℕ) (r : Bool) (after : List ℕ) : Type 0 where
-  pub steppable : r ≡ true → Steppable nodes count after
   pub unmarked : r ≡ true → Unmarked nodes count (end - from) values after
   pub standing : r ≡ true → (assignment : List ℕ) → Accepted nodes count → Standing (nodesOf nodes count) assignment (take from order) values → Standing (nodesOf nodes count) assignment (take end order) after
   pub passed : r ≡ true → (assignment : List ℕ) → Accepted nodes count → Standing (nodesOf nodes count) assignment (take from order) values → fitFrom nodes count order from ≡ fitFrom nodes count order end
   pub stopped : r ≡ false → (assignment : List ℕ) → Accepted nodes count → Standing (nodesOf nodes count) assignment (take from order) values → fitFrom nodes count order from ≡ true → ⊥
+
+-- what the steps leave where each entry's cell was ready, whether it waited or not: where all waited, a mark less for each; else marks are left over, and the list is not fit
+pub record Walked (nodes : List ℕ) (count : ℕ) (order : List ℕ) (from end : ℕ) (values after : List ℕ) : Type 0 where
+  pub steppable : Steppable nodes count after
+  pub waited : Bool
+  pub through : Through nodes count order from end values waited after
+  pub over : waited ≡ false → markCount count values < markCount count after + (end - from)
+
+-- the same, or that the steps stopped where a cell was not ready
+pub record Went (nodes : List ℕ) (count : ℕ) (order : List ℕ) (from end : ℕ) (values : List ℕ) (r : Bool) (after : List ℕ) : Type 0 where
+  pub walked : r ≡ true → Walked nodes count order from end values after
+  pub stopped : r ≡ false → Through nodes count order from end values false after
+
+-- no entry from one place of a list up to another names node k
+abbrev pub Unnamed : List ℕ → ℕ → ℕ → ℕ → Type 0
+Unnamed order from end k = (j : ℕ) → from ≤ j → j < end → getD order j 0 ≡ k → ⊥
+
+-- the values of other nodes are what they were
+pub record OthersKept (count : ℕ) (order : List ℕ) (from end : ℕ) (values after : List ℕ) : Type 0 where
+  pub at : (k : ℕ) → (k < count → Unnamed order from end k) → getD after k 0 ≡ getD values k 0
+
+-- the nodes that entries from one place of a list up to another name are marked again
+pub record MarkedAgain (count : ℕ) (order : List ℕ) (from end : ℕ) (values after : List ℕ) : Type 0 where
+  pub others : OthersKept count order from end values after
+  pub named : (j : ℕ) → from ≤ j → j < end → getD order j 0 < count → getD after (getD order j 0) 0 ≡ 144

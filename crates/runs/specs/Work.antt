@@ -43,10 +43,6 @@ markCount (suc n) values = cond (ltb 2 (getD values n 0)) (suc (markCount n valu
 abbrev pub Graded : List ℕ → Type 0
 Graded values = (k : ℕ) → 2 < getD values k 0 → 143 < getD values k 0
 
--- marks that note nothing of their cells
-abbrev pub Fresh : List ℕ → Type 0
-Fresh values = (k : ℕ) → 2 < getD values k 0 → getD values k 0 ≡ 144
-
 -- record k is an input's
 abbrev pub isInputAt : List ℕ → ℕ → Bool
 isInputAt nodes k = eqb (nodeAt nodes k .kind) 1
@@ -61,14 +57,14 @@ pub record Puttable (nodes : List ℕ) (count : ℕ) (assignment values : List �
   pub room : count * 9 ≤ length nodes
   pub stored : count ≤ length values
   pub marks : (k : ℕ) → k < count → 2 < getD values k 0
-  pub fresh : Fresh values
+  pub graded : Graded values
   pub small : (i : ℕ) → getD assignment i 0 < 3
 
 -- the store once it is put in: a mark less for each of its values, which only inputs have
 pub record InputsIn (nodes : List ℕ) (count : ℕ) (assignment values : List ℕ) : Type 0 where
   pub counted : markCount count values + length assignment ≡ count
   pub inputs : (k : ℕ) → k < count → getD values k 0 < 3 → nodeAt nodes k .kind ≡ 1
-  pub fresh : Fresh values
+  pub graded : Graded values
 
 -- the word of a wire that is of a node before k
 abbrev pub EarlierNode : ℕ → ℕ → Type 0

@@ -1,21 +1,63 @@
-// The records that a block of a list reaches, looked at in storage order before its steps.
-// A list jumps between records that no cache holds; a pass in storage order has them fetched in sequence, and notes of which cells a step need not check the record again.
+// What is looked at before the work, for speed alone: whether counts are guessed, the stretches of a list, the records that a stretch reaches.
+// A list jumps between records; where no cache holds them all, a pass over the next ones in storage order has them fetched in sequence.
 ghost use mathlib.Core.Path.{_≡_};
-ghost use mathlib.Core.Bool.{true};
-ghost use Prim.Native.Nat.{_+_, _*_, _<_, _≤_};
+ghost use mathlib.Core.Bool.{true, false};
+ghost use Prim.Native.Nat.{ℕ, _+_, _*_, _<_, _≤_};
 ghost use lib.ListN.{length};
-ghost use Rattle.runs.specs.Steps.{Plain, Steppable, Remarked};
-use crate::values::both_earlier;
+ghost use Rattle.circuit.specs.Records.{nodeAt};
 
-// Where a block ends that starts at a place of a list: 2,048 entries on, or at the last.
-pub fn block_end(from: usize, entries: usize) -> usize
-    requires { ⌜ from < entries ⌝ }
-    ensures { λ r. ⌜ (from < r) × (r ≤ entries) ⌝ }
+// How many wires a cell has is likely guessed right by a processor: few cells it learns in earlier calls, and of many, 32 that stand evenly apart have not one wire.
+pub fn counts_guessed(nodes: &[usize], count: usize) -> bool
+    requires { ⌜ count * 9 ≤ length (now nodes) ⌝ }
+    ensures { λ r. ⌜ (r ≡ false → (k : ℕ) × (k < count) × (nodeAt (now (nodes .entry)) k .count ≡ 1)) ⌝ }
 {
-    if entries - from <= 2048 {
+    if count <= 4096 {
+        return true;
+    }
+    let apart = count / 32;
+    let mut k = 0;
+    while k < count {
+        if nodes[k * 9 + 1] == 1 {
+            return false;
+        }
+        k += apart;
+    }
+    true
+}
+
+// How many entries a stretch has that starts at a place of a list: 16 at first, then as many as were passed, 256 at most.
+pub fn stretch_size(from: usize) -> usize
+    ensures { λ r. ⌜ 0 < r ⌝ }
+{
+    if from <= 16 {
+        return 16;
+    }
+    if 256 <= from {
+        return 256;
+    }
+    from
+}
+
+// Where it ends, in a list of so many entries.
+pub fn stretch_end(from: usize, entries: usize) -> usize
+    requires { ⌜ from ≤ entries ⌝ }
+    ensures { λ r. ⌜ (from ≤ r) × (r ≤ entries) × (from < entries → from < r) ⌝ }
+{
+    let size = stretch_size(from);
+    if entries - from <= size {
         return entries;
     }
-    from + 2048
+    from + size
+}
+
+// How many nodes need no look ahead at first: all, where a cache may hold their records.
+pub fn first_lead(count: usize) -> usize
+    ensures { λ r. ⌜ r ≤ count ⌝ }
+{
+    if count <= 262144 {
+        return count;
+    }
+    0
 }
 
 // The lead, or a number past node x if that is greater.
@@ -32,7 +74,7 @@ pub fn further(lead: usize, x: usize, count: usize) -> usize
     lead
 }
 
-// A number past the nodes that a block names, by a look at one entry of eight; the lead where that is greater.
+// A number past the nodes that a stretch names, by a look at one entry of eight; the lead where that is greater.
 pub fn front(order: &[usize], from: usize, end: usize, count: usize, lead: usize) -> usize
     requires { ⌜ (from ≤ end) × (end ≤ length (now order)) × (lead ≤ count) ⌝ }
     ensures { λ r. ⌜ r ≤ count ⌝ }
@@ -44,42 +86,36 @@ pub fn front(order: &[usize], from: usize, end: usize, count: usize, lead: usize
     top
 }
 
-// Record k is that of a plain cell.
-pub fn is_plain(nodes: &[usize], k: usize) -> bool
-    requires { ⌜ k * 9 + 9 ≤ length (now nodes) ⌝ }
-    ensures { λ r. ⌜ (r ≡ true → Plain (now (nodes .entry)) k) ⌝ }
+// The kinds of the records from one number up to another are below 4, as those of inputs and cells are.
+pub fn kinds_low(nodes: &[usize], from: usize, end: usize) -> bool
+    requires { ⌜ end * 9 ≤ length (now nodes) ⌝ }
+    ensures { λ r. ⌜ (r ≡ true → (k : ℕ) → from ≤ k → k < end → nodeAt (now (nodes .entry)) k .kind < 4) ⌝ }
 {
-    let at = k * 9;
-    if nodes[at] == 2 {
-        if nodes[at + 1] == 2 {
-            if nodes[at + 2] < 16 {
-                return both_earlier(nodes, k);
-            }
-        }
-    }
-    false
-}
-
-// Node k gets the mark of a plain cell, if it is one that waits.
-pub fn note_plain(nodes: &[usize], count: usize, k: usize, values: &mut [u8])
-    requires { ⌜ Steppable (now nodes) count (now values) × (k < count) ⌝ }
-    ensures { λ _. ⌜ Remarked (now (nodes .entry)) count (now (values .entry)) (now (values .exit)) ⌝ }
-{
-    if values[k] < 3 {
-        return;
-    }
-    if is_plain(nodes, k) {
-        values[k] = 145;
-        return;
-    }
-}
-
-// The same of the nodes from one number up to another.
-pub fn mark_plain(nodes: &[usize], count: usize, from: usize, end: usize, values: &mut [u8])
-    requires { ⌜ Steppable (now nodes) count (now values) × (end ≤ count) ⌝ }
-    ensures { λ _. ⌜ Remarked (now (nodes .entry)) count (now (values .entry)) (now (values .exit)) ⌝ }
-{
+    let mut high = 0;
     for k in from..end {
-        note_plain(nodes, count, k, values);
+        high |= nodes[k * 9] >> 2;
     }
+    high == 0
+}
+
+// The number of nodes looked at once those that a stretch reaches are; all where one of them is neither an input nor a cell, since the run is then refused.
+pub fn look_ahead(
+    nodes: &[usize],
+    count: usize,
+    order: &[usize],
+    from: usize,
+    end: usize,
+    lead: usize,
+) -> usize
+    requires { ⌜ (count * 9 ≤ length (now nodes)) × (from ≤ end) × (end ≤ length (now order)) × (lead ≤ count) ⌝ }
+    ensures { λ r. ⌜ r ≤ count ⌝ }
+{
+    if lead == count {
+        return count;
+    }
+    let top = front(order, from, end, count, lead);
+    if kinds_low(nodes, lead, top) {
+        return top;
+    }
+    count
 }

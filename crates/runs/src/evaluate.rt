@@ -2,18 +2,20 @@
 ghost use mathlib.Core.Path.{_≡_};
 ghost use mathlib.Core.Bool.{true, false};
 ghost use mathlib.Core.List.{List, [], _++_};
-ghost use Prim.Native.Nat.{ℕ, _-_, _*_, _/_, _<_, _≤_};
+ghost use Prim.Native.Nat.{ℕ, _+_, _-_, _*_, _/_, _<_, _≤_};
 ghost use lib.Dec.{ltb};
 ghost use lib.ListN.{length, getD, replicate};
 ghost use Rattle.laws.specs.Lists.{some};
 ghost use Rattle.circuit.specs.declared.refusals.Checked.the-variants.{Sound, Refused};
-ghost use Rattle.circuit.specs.Records.{nodeAt, nodesOf};
+ghost use Rattle.circuit.specs.Records.{nodesOf};
 ghost use Rattle.circuit.specs.Check.{nodesIn, wiresIn};
 ghost use Rattle.runs.specs.Values.{storageValues, evaluated};
 ghost use Rattle.runs.specs.Fit.{Accepted};
-ghost use Rattle.runs.specs.Work.{Tells, Passing, Next, EntryIs, Settled, Valued};
+ghost use Rattle.runs.specs.Work.{Tells, Passing, Next, Settled, Valued};
 ghost use Rattle.runs.specs.Steps.{Standing};
 ghost use Rattle.runs.specs.Calls.{evaluateFault, evaluateCall, evaluatedResult};
+use crate::ahead::counts_guessed;
+use crate::entries::cell_entry;
 use crate::inputs::mark_all;
 use crate::inputs::put_inputs;
 use crate::inputs::wrong_assignment;
@@ -21,10 +23,6 @@ use crate::outputs::give;
 use crate::outputs::prepared;
 use crate::outputs::refuse;
 use crate::outputs::room_fault;
-use crate::values::both_earlier;
-use crate::values::node_value;
-use crate::values::wire_value;
-use cells::table_entry;
 use circuit::check::validate_topological;
 use circuit::refusals::Checked;
 use circuit::refusals::Refusal;
@@ -35,69 +33,13 @@ pub enum Evaluated {
     Refused(Refusal),
 }
 
-// Of cell k with two wires, the entry of the table at the index that their values give; 2 where the record breaks a rule or reads a node that is not earlier.
-pub fn two_wire_entry(nodes: &[usize], k: usize, values: &[u8]) -> u8
-    requires { ⌜ Next (now nodes) k (now values) × (nodeAt (now nodes) k .kind ≡ 2) × (nodeAt (now nodes) k .count ≡ 2) ⌝ }
-    ensures { λ r. ⌜ EntryIs k (nodeAt (now (nodes .entry)) k) (now (values .entry)) r ⌝ }
-{
-    let at = k * 9;
-    let table = nodes[at + 2];
-    if 16 <= table {
-        return 2;
-    }
-    if both_earlier(nodes, k) {
-        let a = node_value(nodes[at + 7], values);
-        let b = node_value(nodes[at + 8], values);
-        return table_entry(table, 2 * a + b) as u8;
-    }
-    if k + 2 <= nodes[at + 7] {
-        return 2;
-    }
-    if k + 2 <= nodes[at + 8] {
-        return 2;
-    }
-    let a = wire_value(nodes[at + 7], values);
-    let b = wire_value(nodes[at + 8], values);
-    table_entry(table, 2 * a + b) as u8
-}
-
-// The same of cell k with one wire.
-pub fn one_wire_entry(nodes: &[usize], k: usize, values: &[u8]) -> u8
-    requires { ⌜ Next (now nodes) k (now values) × (nodeAt (now nodes) k .kind ≡ 2) × (nodeAt (now nodes) k .count ≡ 1) ⌝ }
-    ensures { λ r. ⌜ EntryIs k (nodeAt (now (nodes .entry)) k) (now (values .entry)) r ⌝ }
-{
-    let at = k * 9;
-    let table = nodes[at + 2];
-    if 4 <= table {
-        return 2;
-    }
-    if k + 2 <= nodes[at + 7] {
-        return 2;
-    }
-    table_entry(table, wire_value(nodes[at + 7], values)) as u8
-}
-
-// The same of any cell k.
-pub fn cell_entry(nodes: &[usize], k: usize, values: &[u8]) -> u8
-    requires { ⌜ Next (now nodes) k (now values) × (nodeAt (now nodes) k .kind ≡ 2) ⌝ }
-    ensures { λ r. ⌜ EntryIs k (nodeAt (now (nodes .entry)) k) (now (values .entry)) r ⌝ }
-{
-    if nodes[k * 9 + 1] == 2 {
-        return two_wire_entry(nodes, k, values);
-    }
-    if nodes[k * 9 + 1] == 1 {
-        return one_wire_entry(nodes, k, values);
-    }
-    2
-}
-
 // The value of node k goes into the store, if it is a cell. False where it breaks a rule, or is no cell and has no value.
-pub fn put_cell(nodes: &[usize], k: usize, values: &mut [u8]) -> bool
+pub fn put_cell(nodes: &[usize], k: usize, guessed: bool, values: &mut [u8]) -> bool
     requires { ⌜ Next (now nodes) k (now values) ⌝ }
     ensures { λ r. ⌜ Tells r (Settled (now (nodes .entry)) k (now (values .entry))) × (r ≡ true → Valued (now (nodes .entry)) k (now (values .entry)) (now (values .exit))) ⌝ }
 {
     if nodes[k * 9] == 2 {
-        let v = cell_entry(nodes, k, values);
+        let v = cell_entry(nodes, k, guessed, values);
         if 1 < v {
             return false;
         }
@@ -111,12 +53,12 @@ pub fn put_cell(nodes: &[usize], k: usize, values: &mut [u8]) -> bool
 }
 
 // The cells in storage order, each checked (15, 16), then worked out.
-pub fn put_cells(nodes: &[usize], count: usize, values: &mut [u8]) -> bool
+pub fn put_cells(nodes: &[usize], count: usize, guessed: bool, values: &mut [u8]) -> bool
     requires { ⌜ (count * 9 ≤ length (now nodes)) × (count ≤ length (now values)) ⌝ }
     ensures { λ r. ⌜ (r ≡ true → (k : ℕ) → k < count → Settled (now (nodes .entry)) k (now (values .entry))) × ((assignment : List ℕ) → Accepted (now (nodes .entry)) count → ((i : ℕ) → getD assignment i 0 < 2) → Standing (nodesOf (now (nodes .entry)) count) assignment [] (now (values .entry)) → (r ≡ true) × ((k : ℕ) → k < count → getD (now (values .exit)) k 0 ≡ getD (storageValues (nodesOf (now (nodes .entry)) count) assignment) k 0)) ⌝ }
 {
     for k in 0..count {
-        if put_cell(nodes, k, values) {} else {
+        if put_cell(nodes, k, guessed, values) {} else {
             return false;
         }
     }
@@ -130,7 +72,7 @@ pub fn put_values(nodes: &[usize], count: usize, assignment: &[u8], values: &mut
 {
     mark_all(values);
     if put_inputs(nodes, count, assignment, values) {
-        return put_cells(nodes, count, values);
+        return put_cells(nodes, count, counts_guessed(nodes, count), values);
     }
     false
 }

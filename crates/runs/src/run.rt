@@ -11,8 +11,8 @@ ghost use Rattle.circuit.specs.Records.{nodesOf};
 ghost use Rattle.circuit.specs.Check.{nodesIn, wiresIn};
 ghost use Rattle.circuit.specs.Graph.{graphOf, fit};
 ghost use Rattle.runs.specs.Runs.{runOutputs};
-ghost use Rattle.runs.specs.Work.{Tells, Passing};
-ghost use Rattle.runs.specs.Steps.{Standing};
+ghost use Rattle.runs.specs.Work.{Tells, Passing, InputsIn};
+ghost use Rattle.runs.specs.Steps.{Steppable, Standing};
 ghost use Rattle.runs.specs.Calls.{runFault, runCall, ranResult};
 use crate::fitness::fit_list;
 use crate::inputs::mark_all;
@@ -22,7 +22,9 @@ use crate::outputs::give;
 use crate::outputs::prepared;
 use crate::outputs::refuse;
 use crate::outputs::room_fault;
-use crate::step::run_steps;
+use crate::stretches::none_waits;
+use crate::stretches::run_stretches;
+use cells::answer_table;
 use circuit::check::validate_topological;
 use circuit::refusals::Checked;
 use circuit::refusals::Refusal;
@@ -94,6 +96,15 @@ pub fn lists_cells(count: usize, inputs: usize, entries: usize) -> bool
     false
 }
 
+// A mark for every node, then the values of the inputs. False where there are too few inputs.
+pub fn marked_inputs(nodes: &[usize], count: usize, assignment: &[u8], values: &mut [u8]) -> bool
+    requires { ⌜ (count * 9 ≤ length (now nodes)) × (count ≤ length (now values)) × (some (ltb 2) (now assignment) ≡ false) ⌝ }
+    ensures { λ r. ⌜ (r ≡ true → InputsIn (now (nodes .entry)) count (now (assignment .entry)) (now (values .exit)) × Steppable (now (nodes .entry)) count (now (values .exit))) × (Passing (now (nodes .entry)) count (now (assignment .entry)) → (r ≡ true) × Standing (nodesOf (now (nodes .entry)) count) (now (assignment .entry)) [] (now (values .exit))) ⌝ }
+{
+    mark_all(values);
+    put_inputs(nodes, count, assignment, values)
+}
+
 // The inputs, then a step for each entry, which checks its record: with as many entries and values as nodes, each node is an input or a cell that was checked.
 // False where a node fails, the inputs are not as many as the values, or the list is not fit.
 pub fn run_store(
@@ -106,9 +117,11 @@ pub fn run_store(
     requires { ⌜ (count * 9 ≤ length (now nodes)) × (count ≤ length (now values)) × (some (ltb 2) (now assignment) ≡ false) × (length (now order) + length (now assignment) ≡ count) ⌝ }
     ensures { λ r. ⌜ Tells r (Passing (now (nodes .entry)) count (now (assignment .entry)) × (fit (graphOf (nodesOf (now (nodes .entry)) count)) [] (now (order .entry)) ≡ true)) × (r ≡ true → Standing (nodesOf (now (nodes .entry)) count) (now (assignment .entry)) (now (order .entry)) (now (values .exit))) ⌝ }
 {
-    mark_all(values);
-    if put_inputs(nodes, count, assignment, values) {
-        return run_steps(nodes, count, order, values);
+    let answers = answer_table();
+    if marked_inputs(nodes, count, assignment, values) {
+        if run_stretches(&answers, nodes, count, order, values) {
+            return none_waits(values, count);
+        }
     }
     false
 }

@@ -11,10 +11,10 @@ use Rattle.runs.proofs.evaluate.put_cells.Statement.{statement}
 use Rattle.runs.proofs.evaluate.put_cells.Tie as tie
 
 abbrev Inv-loop : tie.InvT-loop
-Inv-loop nodes count values₀ k₀ values k = Worked nodes count values₀ k values
+Inv-loop nodes count guessed values₀ k₀ values k = Worked nodes count values₀ k values
 
 abbrev μ-loop : tie.MeasureT-loop
-μ-loop nodes count values₀ k₀ values k = count - k
+μ-loop nodes count guessed values₀ k₀ values k = count - k
 
 loop-holds : tie.Need-loop-holds Inv-loop μ-loop
 loop-holds c = worked-start (c .before .before .args .nodes .now) (c .before .before .args .count) (c .before .before .args .values .now)
@@ -23,7 +23,7 @@ put-cell-requires : tie.Need-put-cell-requires Inv-loop μ-loop
 put-cell-requires c κs = record { inside = omega (arith, c .before .before .before .before .before .pre .0, c .before .loop-test .taken); stored = omega (arith, c .before .before .before .before .before .pre .1, c .before .before .loop .inv .kept, c .before .loop-test .taken); known = c .before .before .loop .inv .known }
 
 same-length : tie.Need-same-length Inv-loop μ-loop
-same-length c = c .before .before .before .put-cell .kept .1 .1 .0 ∙ c .before .before .before .before .before .before .loop .inv .kept
+same-length c = c .before .before .before .put-cell .kept .1 .1 .1 .0 ∙ c .before .before .before .before .before .before .loop .inv .kept
 
 returns : tie.Need-returns Inv-loop μ-loop
 returns c = (

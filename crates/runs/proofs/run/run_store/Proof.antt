@@ -1,46 +1,59 @@
 -- `run_store` meets its contract.
 -- Assumes nothing.
-use mathlib.Core.Bool.{false≢true}
-use native.Mathlib.Omega.{arith}
-use lib.ListN.{length}
+use mathlib.Core.Bool.{false, false≢true}
 use Rattle.laws.proofs.Tests.{clash}
-use Rattle.runs.proofs.Running.{marked-puttable, store-tells}
-use Rattle.runs.proofs.Through.{steppable-fresh}
+use Rattle.runs.proofs.Running.{store-tells, walked-tells}
 use borrow.Author.Needs.{needs}
 use Rattle.runs.proofs.run.run_store.Statement.{statement}
 use Rattle.runs.proofs.run.run_store.Tie as tie
 
-mark-all-requires : tie.Need-mark-all-requires
-mark-all-requires c κs = search needs
+answer-table-requires : tie.Need-answer-table-requires
+answer-table-requires c κs = search needs
 
-put-inputs-requires : tie.Need-put-inputs-requires
-put-inputs-requires c κs = marked-puttable (c .before .before .before .before .before .before .before .before .before .args .nodes .now) (c .before .before .before .before .before .before .before .before .before .args .count) (c .before .before .before .before .before .before .before .before .before .args .assignment .now) (length (c .before .before .before .before .before .before .before .before .before .args .values .now)) _ (c .before .before .before .before .before .before .before .before .before .pre .0) (c .before .before .before .mark-all .ensures) (c .before .before .before .before .before .before .before .before .before .pre .1) (c .before .before .before .before .before .before .before .before .before .pre .2)
+marked-inputs-requires : tie.Need-marked-inputs-requires
+marked-inputs-requires c κs = search needs
 
-run-steps-requires : tie.Need-run-steps-requires
-run-steps-requires c κs =
-    let i = c .before .before .before .before .put-inputs .ensures .0 (c .before .if1 .taken) in
-    steppable-fresh (c .before .before .before .before .before .before .before .before .before .before .before .before .before .before .args .nodes .now) (c .before .before .before .before .before .before .before .before .before .before .before .before .before .before .args .count) _ (c .before .before .before .before .before .before .before .before .before .before .before .before .before .before .pre .0) (omega (arith, c .before .before .before .before .before .before .before .before .before .before .before .before .before .before .pre .1, c .before .before .before .before .put-inputs .kept .1 .1 .1 .0, c .before .before .before .before .before .before .before .before .mark-all .kept .0)) (i .fresh)
+run-stretches-requires : tie.Need-run-stretches-requires
+run-stretches-requires c κs = (c .before .before .before .before .before .before .before .answer-table .ensures, c .before .before .before .before .before .marked-inputs .ensures .0 (c .before .before .if1 .taken) .1)
+
+none-waits-requires : tie.Need-none-waits-requires
+none-waits-requires c κs = search needs
 
 same-length : tie.Need-same-length
 same-length c = search needs
 
 returns : tie.Need-returns
-returns c = store-tells (c .before .before .before .before .before .before .before .before .before .before .before .before .before .before .before .before .before .args .nodes .now) (c .before .before .before .before .before .before .before .before .before .before .before .before .before .before .before .before .before .args .count) (c .before .before .before .before .before .before .before .before .before .before .before .before .before .before .before .before .before .args .assignment .now) (length (c .before .before .before .before .before .before .before .before .before .before .before .before .before .before .before .before .before .args .values .now)) _ (c .before .before .before .before .before .before .before .before .before .before .before .before .before .before .before .before .before .pre .0) (c .before .before .before .before .before .before .before .before .before .before .before .mark-all .ensures) (c .before .before .before .before .before .before .before .before .before .before .before .before .before .before .before .before .before .pre .1) (c .before .before .before .before .before .before .before .before .before .before .before .before .before .before .before .before .before .pre .2) (c .before .before .before .before .before .before .before .before .before .before .before .before .before .before .before .before .before .args .order .now) _ _ (c .before .before .run-steps .result) (c .before .before .before .before .before .before .before .before .before .before .before .before .before .before .before .before .before .pre .3) (c .before .before .before .before .before .before .before .put-inputs .ensures .0 (c .before .before .before .before .if1 .taken)) (λ b. c .before .before .before .before .before .before .before .put-inputs .ensures .1 b .1) (c .before .before .run-steps .ensures .0) (c .before .before .run-steps .ensures .1)
+returns c =
+    let a = c .before .before .before .before .before .before .before .before .before .before .before .before .before .before .before .before .before .before .args in
+    let i = c .before .before .before .before .before .before .before .before .before .before .before .marked-inputs .ensures .0 (c .before .before .before .before .before .before .before .before .if1 .taken) in
+    walked-tells (a .nodes .now) (a .count) (a .assignment .now) (a .order .now) _ _ (c .before .before .before .before .before .before .before .before .before .before .before .before .before .before .before .before .before .before .pre .0) (c .before .before .before .before .before .before .before .before .before .before .before .before .before .before .before .before .before .before .pre .3) (i .0) (c .none-waits .result) (λ b. c .before .before .before .before .before .before .before .before .before .before .before .marked-inputs .ensures .1 b .1) (c .before .before .before .before .before .run-stretches .ensures .walked (c .before .before .if2 .taken)) (c .none-waits .ensures)
 
 same-length-2 : tie.Need-same-length-2
 same-length-2 c = search needs
 
 returns-2 : tie.Need-returns-2
-returns-2 c = (λ g. clash (c .before .before .before .put-inputs .ensures .1 (g .0) .0) (c .if1 .left), λ e. absurd (false≢true e))
+returns-2 c =
+    let a = c .before .before .before .before .before .before .before .before .before .before .before .before .before .before .before .before .args in
+    let i = c .before .before .before .before .before .before .before .before .before .marked-inputs .ensures .0 (c .before .before .before .before .before .before .if1 .taken) in
+    store-tells (a .nodes .now) (a .count) (a .assignment .now) (a .order .now) _ _ (c .before .before .before .before .before .before .before .before .before .before .before .before .before .before .before .before .pre .0) (c .before .before .before .before .before .before .before .before .before .before .before .before .before .before .before .before .pre .3) (i .0) false (λ b. c .before .before .before .before .before .before .before .before .before .marked-inputs .ensures .1 b .1) (c .before .before .before .run-stretches .ensures .stopped (c .if2 .left))
+
+same-length-3 : tie.Need-same-length-3
+same-length-3 c = search needs
+
+returns-3 : tie.Need-returns-3
+returns-3 c = (λ g. clash (c .before .before .before .marked-inputs .ensures .1 (g .0) .0) (c .if1 .left), λ e. absurd (false≢true e))
 
 pub run-store-spec : {M : Type 1} → statement M
 run-store-spec =
     tie.close
     (tie.spec
-    mark-all-requires
-    put-inputs-requires
-    run-steps-requires
+    answer-table-requires
+    marked-inputs-requires
+    run-stretches-requires
+    none-waits-requires
     same-length
     returns
     same-length-2
-    returns-2)
+    returns-2
+    same-length-3
+    returns-3)

@@ -1,25 +1,25 @@
 -- `run_list` meets its contract. The invariant: the entries passed are gone through.
 -- Assumes nothing.
 use mathlib.Core.Path.{_≡_, refl, _∙_, subst}
-use mathlib.Core.Bool.{true, false}
 use Prim.Native.Nat.{ℕ, _+_, _-_, _<_, _≤_}
 use native.Mathlib.Omega.{arith}
 use lib.ListN.{length, getD}
 use borrow.Author.Needs.{needs}
-use Rattle.runs.specs.Steps.{Through}
+use Rattle.runs.specs.Steps.{Walked}
 use Rattle.runs.proofs.Passing.{told, denied}
-use Rattle.runs.proofs.Through.{steppable-one, through-none, through-then, through-step, through-past, through-denied}
+use Rattle.runs.proofs.Through.{steppable-one, through-past, through-denied}
+use Rattle.runs.proofs.Walked.{walked-none, walked-then, walked-off, walked-step, went-on, went-off}
 use Rattle.runs.proofs.step.run_list.Statement.{statement}
 use Rattle.runs.proofs.step.run_list.Tie as tie
 
 abbrev Inv-loop : tie.InvT-loop
-Inv-loop answers nodes count order from end values₀ i₀ values i = Through nodes count order from i values₀ true values × (from ≤ i) × (i ≤ end) × (length values ≡ length values₀)
+Inv-loop answers nodes count order guessed from end values₀ i₀ values i = Walked nodes count order from i values₀ values × (from ≤ i) × (i ≤ end) × (length values ≡ length values₀)
 
 abbrev μ-loop : tie.MeasureT-loop
-μ-loop answers nodes count order from end values₀ i₀ values i = end - i
+μ-loop answers nodes count order guessed from end values₀ i₀ values i = end - i
 
 loop-holds : tie.Need-loop-holds Inv-loop μ-loop
-loop-holds c = (through-none (c .before .before .before .args .nodes .now) (c .before .before .before .args .count) (c .before .before .before .args .order .now) (c .before .before .before .args .from) (c .before .before .before .args .values .now) (c .before .before .before .pre .1), omega arith, c .before .before .before .pre .2, refl)
+loop-holds c = (walked-none (c .before .before .before .args .nodes .now) (c .before .before .before .args .count) (c .before .before .before .args .order .now) (c .before .before .before .args .from) (c .before .before .before .args .values .now) (c .before .before .before .pre .1), omega arith, c .before .before .before .pre .2, refl)
 
 mul-x : tie.Need-mul-x Inv-loop μ-loop
 mul-x c = search needs
@@ -35,20 +35,23 @@ returns c =
     let a = c .before .before .before .before .before .before .before .args in
     let l = c .before .before .before .loop in
     let h : l .i < length (a .order .now) = omega (arith, c .before .before .loop-test .taken, c .before .before .before .before .before .before .before .pre .3) in
-    through-then (a .nodes .now) (a .count) (a .order .now) (a .from) (l .i) (a .end) (a .values .now) (l .values) (l .values) false (l .inv .1) (l .inv .2) (l .inv .0) (through-past (a .nodes .now) (a .count) (a .order .now) (l .i) h (l .values) (a .end) (l .values) (c .if1 .taken))
+    went-off (a .nodes .now) (a .count) (a .order .now) (a .from) (a .end) (a .values .now) (l .values)
+    (walked-off (a .nodes .now) (a .count) (a .order .now) (a .from) (l .i) (a .end) (a .values .now) (l .values) (l .values) (l .inv .1) (l .inv .2) (l .inv .0) (through-past (a .nodes .now) (a .count) (a .order .now) (l .i) h (l .values) (a .end) (l .values) (c .if1 .taken)))
 
 step-requires : tie.Need-step-requires Inv-loop μ-loop
-step-requires c κs = (c .before .before .before .before .before .before .before .before .pre .0, steppable-one (c .before .before .before .before .before .before .before .before .args .nodes .now) (c .before .before .before .before .before .before .before .before .args .count) (c .before .before .before .before .loop .values) (c .before .before .before .before .loop .inv .0 .steppable refl) (getD (c .before .before .before .before .before .before .before .before .args .order .now) (c .before .before .before .before .loop .i) 0) (c .before .if1 .left))
+step-requires c κs = (c .before .before .before .before .before .before .before .before .pre .0, steppable-one (c .before .before .before .before .before .before .before .before .args .nodes .now) (c .before .before .before .before .before .before .before .before .args .count) (c .before .before .before .before .loop .values) (c .before .before .before .before .loop .inv .0 .steppable) (getD (c .before .before .before .before .before .before .before .before .args .order .now) (c .before .before .before .before .loop .i) 0) (c .before .if1 .left))
 
 same-length-2 : tie.Need-same-length-2 Inv-loop μ-loop
-same-length-2 c = c .before .before .before .step .kept .1 .1 .1 .0 ∙ c .before .before .before .before .before .before .before .before .loop .inv .3
+same-length-2 c = c .before .before .before .step .kept .1 .1 .1 .1 .0 ∙ c .before .before .before .before .before .before .before .before .loop .inv .3
 
 returns-2 : tie.Need-returns-2 Inv-loop μ-loop
 returns-2 c =
     let a = c .before .before .before .before .before .before .before .before .before .before .before .before .args in
     let l = c .before .before .before .before .before .before .before .before .loop in
     let h : l .i < length (a .order .now) = omega (arith, c .before .before .before .before .before .before .before .loop-test .taken, c .before .before .before .before .before .before .before .before .before .before .before .before .pre .3) in
-    through-then (a .nodes .now) (a .count) (a .order .now) (a .from) (l .i) (a .end) (a .values .now) (l .values) _ false (l .inv .1) (l .inv .2) (l .inv .0) (through-denied (a .nodes .now) (a .count) (a .order .now) (l .i) h (l .values) (a .end) _ (denied (c .before .before .before .step .result) (c .before .before .before .step .ensures .0) (c .if2 .left)))
+    let d = denied (c .before .before .before .step .result) (c .before .before .before .step .ensures .0) (c .if2 .left) in
+    went-off (a .nodes .now) (a .count) (a .order .now) (a .from) (a .end) (a .values .now) _
+    (walked-off (a .nodes .now) (a .count) (a .order .now) (a .from) (l .i) (a .end) (a .values .now) (l .values) _ (l .inv .1) (l .inv .2) (l .inv .0) (through-denied (a .nodes .now) (a .count) (a .order .now) (l .i) h (l .values) (a .end) _ (λ t. d (t .ready))))
 
 add-i : tie.Need-add-i Inv-loop μ-loop
 add-i c = search needs
@@ -63,10 +66,10 @@ loop-again c =
     let h : l .i < length (a .order .now) = omega (arith, c .before .before .before .before .before .before .before .loop-test .taken, c .before .before .before .before .before .before .before .before .before .before .before .before .pre .3) in
     let t = told (c .before .before .before .step .result) (c .before .before .before .step .ensures .0) (c .if2 .taken) in
     let e = c .before .before .before .step .ensures .1 (c .if2 .taken) in (
-      through-then (a .nodes .now) (a .count) (a .order .now) (a .from) (l .i) (l .i + 1) (a .values .now) (l .values) _ true (l .inv .1) (omega arith) (l .inv .0) (through-step (a .nodes .now) (a .count) (a .order .now) (l .i) h (l .values) _ (l .inv .0 .steppable refl) (c .before .before .before .before .before .if1 .left) t e),
+      walked-then (a .nodes .now) (a .count) (a .order .now) (a .from) (l .i) (l .i + 1) (a .values .now) (l .values) _ (l .inv .1) (omega arith) (l .inv .0) (walked-step (a .nodes .now) (a .count) (a .order .now) (l .i) h (l .values) _ (l .inv .0 .steppable) (c .before .before .before .before .before .if1 .left) t e),
       omega (arith, l .inv .1),
       omega (arith, c .before .before .before .before .before .before .before .loop-test .taken),
-      c .before .before .before .step .kept .1 .1 .1 .0 ∙ l .inv .3,
+      c .before .before .before .step .kept .1 .1 .1 .1 .0 ∙ l .inv .3,
     )
 
 same-length-3 : tie.Need-same-length-3 Inv-loop μ-loop
@@ -77,7 +80,8 @@ returns-3 c =
     let a = c .before .before .before .before .before .args in
     let l = c .before .loop in
     let z : l .i ≡ a .end = omega (arith, c .loop-test .left, l .inv .2) in
-    subst (λ (n : ℕ). Through (a .nodes .now) (a .count) (a .order .now) (a .from) n (a .values .now) true (l .values)) z (l .inv .0)
+    went-on (a .nodes .now) (a .count) (a .order .now) (a .from) (a .end) (a .values .now) (l .values)
+    (subst (λ (n : ℕ). Walked (a .nodes .now) (a .count) (a .order .now) (a .from) n (a .values .now) (l .values)) z (l .inv .0))
 
 pub run-list-spec : {M : Type 1} → statement M
 run-list-spec =
