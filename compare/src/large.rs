@@ -1,13 +1,13 @@
-//! Circuits of some 60 to 3,000 cells, and a few of 20,000, on both sides. What is only met there: the schedule's second part, which
-//! keeps the best of many ready cells in a tree, and runs over more nodes than small circuits have. So of each circuit the orders at
+//! Circuits of some 60 to 3,000 cells, and a few of 20,000 and 265,000, on both sides. What is only met there: the schedule's second
+//! part, which keeps the best of many ready cells in a tree, and the kinds of steps by which a run goes through a long list. So of each circuit the orders at
 //! windows around each bound are compared, with keys of which many are equal; an order is run, without and with unknown inputs;
 //! altered orders (20), a broken record (15) and a forward read (16), each at a random place, must give their number and zeros.
 use crate::circuits::{break_record, broken, faulty, words};
 use crate::generate::Random;
 use crate::library::{self, Area, Records};
-use crate::reference::{BoolCircuit, BoolNode};
+use crate::reference::{BoolCircuit, BoolNode, BoolWire};
 use crate::runs;
-use crate::shapes::{self, NUMBERINGS, SHAPES};
+use crate::shapes::{self, NUMBERINGS, Numbering, SHAPES, Shape};
 
 /// Around the most cells of a step that counts as short (32), and around a word of ready cells (64).
 const WINDOWS: [usize; 12] = [1, 2, 3, 7, 32, 33, 63, 64, 65, 100, 1000, usize::MAX];
@@ -23,11 +23,36 @@ pub struct Seen {
     pub orders: usize,
     /// orders of which the tree took some cells, by the window
     pub ranked: Vec<usize>,
-    /// circuits that were run, and those of more than 16,384 nodes among them
+    /// circuits that were run, and by which steps
     pub runs: usize,
-    pub long_runs: usize,
+    pub steps: Steps,
+    /// circuits besides, run alone, whose runs look at records ahead
+    pub far: usize,
     /// orders that were refused by the run (20)
     pub unfit: usize,
+}
+
+/// The runs of each kind of steps.
+#[derive(Default)]
+pub struct Steps {
+    /// every cell has two wires of nodes
+    pub plain: usize,
+    /// the first other cell stands behind the first stretch of the list
+    pub given_up: usize,
+    /// other cells' wires are found by their count
+    pub counted: usize,
+}
+
+impl Steps {
+    /// By crates/runs/src/ahead.rt the first stretch has 16 entries, and a branch on the count is avoided above 4,096 nodes where one of
+    /// 32 that stand evenly apart has one wire.
+    fn of(circuit: &BoolCircuit, list: &[usize]) -> Self {
+        let count = circuit.nodes.len();
+        let plain = |id: &usize| circuit.nodes[*id].inputs().len() == 2 && circuit.nodes[*id].inputs().iter().all(|wire| matches!(wire, BoolWire::Node(_)));
+        let first = list.iter().position(|id| !plain(id));
+        let guessed = count <= 4_096 || (0..count).step_by(count / 32).all(|id| circuit.nodes[id].inputs().len() != 1);
+        Self { plain: usize::from(first.is_none()), given_up: usize::from(first.is_some_and(|at| at >= 16)), counted: usize::from(first.is_some() && !guessed) }
+    }
 }
 
 impl Seen {
@@ -38,8 +63,17 @@ impl Seen {
         self.orders += other.orders;
         self.ranked.extend(other.ranked);
         self.runs += other.runs;
-        self.long_runs += other.long_runs;
+        self.steps.plain += other.steps.plain;
+        self.steps.given_up += other.steps.given_up;
+        self.steps.counted += other.steps.counted;
+        self.far += other.far;
         self.unfit += other.unfit;
+    }
+
+    /// The kinds of steps by which no circuit was run.
+    pub fn untaken(&self) -> Vec<&'static str> {
+        let steps = [("plain", self.steps.plain), ("given up", self.steps.given_up), ("counted", self.steps.counted)];
+        steps.into_iter().filter(|(_, runs)| *runs == 0).map(|(word, _)| word).collect()
     }
 
     /// The windows that lead to the tree and at which it took no cell.
@@ -185,6 +219,20 @@ pub fn compare(random: &mut Random, number: usize, cells: usize) -> Result<Seen,
     })
 }
 
+/// Runs of a circuit of more than 262,144 nodes, above which a run looks at records ahead (crates/runs/src/ahead.rt): along the storage
+/// order, without and with unknown inputs, and along altered orders. It is not scheduled, which takes the reference long.
+pub fn compare_far(random: &mut Random) -> Result<Seen, String> {
+    let circuit = shapes::circuit(random, Shape::Near, Numbering::Stored, 265_000);
+    let (nodes, outputs) = words(&circuit);
+    let records = Records { nodes: &nodes, outputs: &outputs };
+    let list = circuit.topological_gates();
+    let assignment: Vec<u8> = circuit.inputs.iter().map(|_| random.below(2) as u8).collect();
+    runs::assignments(&circuit, records, &list)?;
+    runs::unknowns(&circuit, records, &list)?;
+    let unfit = unfit(random, &circuit, records, &list, &assignment)?;
+    Ok(Seen { steps: Steps::of(&circuit, &list), far: 1, unfit, ..Seen::default() })
+}
+
 fn compare_circuit(random: &mut Random, circuit: &BoolCircuit, cells: usize) -> Result<Seen, String> {
     let (mut nodes, mut outputs) = words(circuit);
     let records = Records { nodes: &nodes, outputs: &outputs };
@@ -214,7 +262,7 @@ fn compare_circuit(random: &mut Random, circuit: &BoolCircuit, cells: usize) -> 
         runs::unknowns(circuit, records, &lists[random.below(lists.len())])?;
         runs::refusals(circuit, records, &list)?;
         seen.runs = 1;
-        seen.long_runs = usize::from(count > 16_384);
+        seen.steps = Steps::of(circuit, &list);
         seen.unfit = unfit(random, circuit, records, &list, &assignment)?;
         forward_read(random, circuit, records, &list, &assignment)?;
     } else {

@@ -27,9 +27,10 @@ use std::io::Write;
 use std::path::Path;
 
 const FORMATS: [Format; 3] = [Format::Blif, Format::Bench, Format::Bristol];
-/// One circuit of up to 3,000 cells, and one of 20,000, for so many random texts.
+/// One circuit of up to 3,000 cells, one of 20,000, and one of 265,000, for so many random texts.
 const LARGE_PART: usize = 20;
 const LARGEST_PART: usize = 3000;
+const FARTHEST_PART: usize = 15_000;
 const OLD: [usize; 6] = [1, 2, 3, 7, 0xDEAD_BEEF, usize::MAX];
 
 /// A text read into areas of these lengths; the refusal's number, 0 for a circuit.
@@ -131,8 +132,12 @@ fn random_texts(programs: &Path, count: usize, seed: u64) -> Report {
         let cells = 20_000 + random.below(1000);
         report.add_large(large::compare(&mut random, number, cells));
     }
+    for _ in 0..(count / FARTHEST_PART).max(2) {
+        report.add_large(large::compare_far(&mut random));
+    }
     report.require_numbers();
     report.require_windows();
+    report.require_steps();
     report
 }
 

@@ -54,6 +54,13 @@ impl Report {
         }
     }
 
+    /// Runs were made by every kind of steps.
+    pub fn require_steps(&mut self) {
+        for word in self.large.untaken() {
+            self.differences.push((usize::MAX, format!("large circuits: no run is by the steps called {word}")));
+        }
+    }
+
     /// Every refusal of 01 that a text of the format can have was met, both ways.
     pub fn require_numbers(&mut self) {
         for way in ["library", "list program"] {
@@ -88,8 +95,9 @@ impl Report {
             println!("random circuits, {}: {}", self.circuits.values().sum::<usize>(), parts.join(", "));
         }
         if self.large.circuits > 0 {
-            let Seen { circuits, circles, forward, orders, ranked, runs, long_runs, unfit } = &self.large;
-            println!("large circuits, {circuits}: ordered {}, 17: {circles}; run {runs}, of more than 16,384 nodes {long_runs}, 16: {forward}; each with a record broken, 15", circuits - circles);
+            let Seen { circuits, circles, forward, orders, ranked, runs, steps, far, unfit } = &self.large;
+            println!("large circuits, {circuits}: ordered {}, 17: {circles}; run {runs}, 16: {forward}; each with a record broken, 15", circuits - circles);
+            println!("runs of large circuits, {}: all cells with two wires of nodes {}, the first other one behind 16 entries {}, wires by their count {}, of more than 262,144 nodes {far}", runs + far, steps.plain, steps.given_up, steps.counted);
             println!("orders of large circuits, {orders}: with cells that the tree took {}; altered orders that the run refused, 20: {unfit}", ranked.len());
         }
         if let Some((_, what)) = self.differences.iter().min_by_key(|(len, _)| *len) {

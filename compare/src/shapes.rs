@@ -77,20 +77,24 @@ impl Plan {
     }
 }
 
-fn constant_or(random: &mut Random, nodes: &[usize]) -> BoolWire {
-    if nodes.is_empty() || random.chance(5) {
+/// A constant in so many cases of a hundred, and where there is no node.
+fn constant_or(random: &mut Random, constants: usize, nodes: &[usize]) -> BoolWire {
+    if nodes.is_empty() || random.chance(constants) {
         return BoolWire::Const(random.chance(50));
     }
     BoolWire::Node(nodes[random.below(nodes.len())])
 }
 
-/// A circuit in which each node reads earlier ones; cells of one and two wires, some of which read one node twice.
+/// A circuit in which each node reads earlier ones; cells of one and two wires, some of which read one node twice, or of two wires of
+/// nodes alone, some of these but for the last.
 fn stored(random: &mut Random, shape: Shape, count: usize) -> BoolCircuit {
     let plan = Plan::new(random, shape, count);
     let mut circuit = BoolCircuit::default();
     let first = [0, 1, 5, 30][random.below(4)];
     let among = [0, 1, 10, 40][random.below(4)];
-    let pairs = [10, 50, 100][random.below(3)];
+    let pairs = [10, 50, 100, 100][random.below(4)];
+    let constants = [0, 5][random.below(2)];
+    let late = random.chance(25);
     let mut cells: Vec<usize> = Vec::new();
     while cells.len() < count {
         let id = circuit.nodes.len();
@@ -101,10 +105,10 @@ fn stored(random: &mut Random, shape: Shape, count: usize) -> BoolCircuit {
         }
         let wire = |random: &mut Random, planned: usize| match plan.read(random, cells.len()) {
             Some(place) if random.chance(planned) => BoolWire::Node(cells[place]),
-            _ => constant_or(random, &circuit.inputs),
+            _ => constant_or(random, constants, &circuit.inputs),
         };
         let mut inputs = vec![wire(random, 98)];
-        if random.chance(pairs) {
+        if random.chance(pairs) && !(late && cells.len() + 1 == count) {
             let second = if random.chance(12) { inputs[0] } else { wire(random, 50) };
             inputs.insert(random.below(2), second);
         }
@@ -116,7 +120,7 @@ fn stored(random: &mut Random, shape: Shape, count: usize) -> BoolCircuit {
     circuit.outputs = match random.below(3) {
         // every node, so that a run's answer is the answer of each
         0 => nodes.iter().map(|id| (format!("o{id}"), BoolWire::Node(*id))).collect(),
-        most => (0..random.below(most * 50)).map(|k| (format!("o{k}"), constant_or(random, &nodes))).collect(),
+        most => (0..random.below(most * 50)).map(|k| (format!("o{k}"), constant_or(random, 5, &nodes))).collect(),
     };
     circuit
 }
