@@ -2,9 +2,10 @@
 //! It is no part of the library: it trusts the records and the list, and tests no index.
 use crate::circuits::{Both, INPUTS};
 
-/// Up to this many nodes the list is gone through at once; above, block by block after a pass in storage order over the records that a block reaches, as the library does.
-const NEAR: usize = 262_144;
-const BLOCK: usize = 256;
+/// Up to this many nodes the list is gone through at once; above, block by block, where the list jumps after a pass in storage order over
+/// the records that a block reaches, as the library does.
+const NEAR: usize = 65_536;
+const BLOCK: usize = 2_048;
 
 pub struct Unchecked {
     answers: [u8; 144],
@@ -34,7 +35,9 @@ impl Unchecked {
             let mut lead = 0;
             for block in order.chunks(BLOCK) {
                 let top = block.iter().step_by(8).fold(lead, |top, x| top.max(x + 1));
-                std::hint::black_box((lead..top).fold(0, |sum: usize, k| sum ^ made.nodes[k * 9] ^ made.nodes[k * 9 + 8]));
+                if block[block.len() - 1].wrapping_sub(block[0]) != block.len() - 1 {
+                    std::hint::black_box((lead..top).fold(0, |sum: usize, k| sum ^ made.nodes[k * 9] ^ made.nodes[k * 9 + 8]));
+                }
                 lead = top;
                 self.steps(&made.nodes, block);
             }

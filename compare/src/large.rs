@@ -1,4 +1,4 @@
-//! Circuits of some 60 to 3,000 cells, and a few of 20,000 and 265,000, on both sides. What is only met there: the schedule's second
+//! Circuits of some 60 to 3,000 cells, and a few of 20,000 and 70,000, on both sides. What is only met there: the schedule's second
 //! part, which keeps the best of many ready cells in a tree, and the kinds of steps by which a run goes through a long list. So of each circuit the orders at
 //! windows around each bound are compared, with keys of which many are equal; an order is run, without and with unknown inputs;
 //! altered orders (20), a broken record (15) and a forward read (16), each at a random place, must give their number and zeros.
@@ -219,18 +219,28 @@ pub fn compare(random: &mut Random, number: usize, cells: usize) -> Result<Seen,
     })
 }
 
-/// Runs of a circuit of more than 262,144 nodes, above which a run looks at records ahead (crates/runs/src/ahead.rt): along the storage
-/// order, without and with unknown inputs, and along altered orders. It is not scheduled, which takes the reference long.
+/// Runs of a circuit of more than 65,536 nodes, above which a run looks at records ahead where a list jumps (crates/runs/src/ahead.rt):
+/// along the storage order and along the library's order for some window, without and with unknown inputs, and along altered orders. The
+/// reference does not order it, which takes it long.
 pub fn compare_far(random: &mut Random) -> Result<Seen, String> {
-    let circuit = shapes::circuit(random, Shape::Near, Numbering::Stored, 265_000);
+    let circuit = shapes::circuit(random, Shape::Layered, Numbering::Stored, 70_000);
     let (nodes, outputs) = words(&circuit);
     let records = Records { nodes: &nodes, outputs: &outputs };
-    let list = circuit.topological_gates();
+    let [mut ready, mut successors, mut order] = runs::schedule_areas(circuit.nodes.len());
+    let keys = shapes::keys(random, circuit.nodes.len());
+    let (number, cells) = library::schedule(records, 64, &keys, [&mut ready, &mut successors, &mut order]);
+    let stored = circuit.topological_gates();
+    if (number, cells) != (0, stored.len()) {
+        return Err(format!("the order of {} cells is answered by {number} and {cells}", stored.len()));
+    }
+    let list = order.first(cells);
+    for along in [&stored[..], list] {
+        runs::assignments(&circuit, records, along)?;
+        runs::unknowns(&circuit, records, along)?;
+    }
     let assignment: Vec<u8> = circuit.inputs.iter().map(|_| random.below(2) as u8).collect();
-    runs::assignments(&circuit, records, &list)?;
-    runs::unknowns(&circuit, records, &list)?;
-    let unfit = unfit(random, &circuit, records, &list, &assignment)?;
-    Ok(Seen { steps: Steps::of(&circuit, &list), far: 1, unfit, ..Seen::default() })
+    let unfit = unfit(random, &circuit, records, list, &assignment)?;
+    Ok(Seen { steps: Steps::of(&circuit, list), far: 1, unfit, ..Seen::default() })
 }
 
 fn compare_circuit(random: &mut Random, circuit: &BoolCircuit, cells: usize) -> Result<Seen, String> {

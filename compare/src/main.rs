@@ -27,7 +27,7 @@ use std::io::Write;
 use std::path::Path;
 
 const FORMATS: [Format; 3] = [Format::Blif, Format::Bench, Format::Bristol];
-/// One circuit of up to 3,000 cells, one of 20,000, and one of 265,000, for so many random texts.
+/// One circuit of up to 3,000 cells, one of 20,000, and one of 70,000, for so many random texts.
 const LARGE_PART: usize = 20;
 const LARGEST_PART: usize = 3000;
 const FARTHEST_PART: usize = 15_000;

@@ -97,7 +97,7 @@ impl Report {
         if self.large.circuits > 0 {
             let Seen { circuits, circles, forward, orders, ranked, runs, steps, far, unfit } = &self.large;
             println!("large circuits, {circuits}: ordered {}, 17: {circles}; run {runs}, 16: {forward}; each with a record broken, 15", circuits - circles);
-            println!("runs of large circuits, {}: all cells with two wires of nodes {}, the first other one behind 16 entries {}, wires by their count {}, of more than 262,144 nodes {far}", runs + far, steps.plain, steps.given_up, steps.counted);
+            println!("runs of large circuits, {}: all cells with two wires of nodes {}, the first other one behind 16 entries {}, wires by their count {}, of more than 65,536 nodes {far}", runs + far, steps.plain, steps.given_up, steps.counted);
             println!("orders of large circuits, {orders}: with cells that the tree took {}; altered orders that the run refused, 20: {unfit}", ranked.len());
         }
         if let Some((_, what)) = self.differences.iter().min_by_key(|(len, _)| *len) {

@@ -1,9 +1,9 @@
 -- The laws of entries whose words are put together: what is 0 in the end was 0 at each.
 -- Assumes nothing.
-use mathlib.Core.Path.{_≡_, refl, ap, _∙_, subst}
+use mathlib.Core.Path.{_≡_, refl, sym, _∙_, subst}
 use mathlib.Core.Bool.{Bool, true, false}
 use mathlib.Core.List.{List}
-use Prim.Native.Nat.{ℕ, _+_, _*_, _/_, _<_, _≤_}
+use Prim.Native.Nat.{ℕ, _+_, _*_, _/_, _^_, _<_, _≤_}
 use native.Mathlib.Omega.{arith}
 use lib.Dec.{eqb}
 use borrow.Author.Tests.{eqb-true, eqb-false}
@@ -18,18 +18,23 @@ use Rattle.runs.proofs.Walked.{walked-then, walked-step}
 pub none-set : (a b : ℕ) → bitOr a b ≡ 0 → (a ≡ 0) × (b ≡ 0)
 none-set a b e = (omega (arith, or-add-and a b, e, and-le-r a b), omega (arith, or-add-and a b, e, and-le-l a b))
 
+both-small : (a b : ℕ) → bitOr a b / 2 ^ 32 ≡ 0 → (a < 2 ^ 32) × (b < 2 ^ 32)
+both-small a b e = (omega (arith, or-add-and a b, e, and-le-r a b), omega (arith, or-add-and a b, e, and-le-l a b))
+
 no-difference : (w : ℕ) → bitXor w 2 ≡ 0 → w ≡ 2
 no-difference w e = omega (arith, xor-add-and w 2, e, and-le-l w 2, and-le-r w 2)
 
--- kinds that have no bit above the lowest two, one more
-pub low-next : (nodes : List ℕ) (from k high : ℕ) → (high ≡ 0 → (j : ℕ) → from ≤ j → j < k → nodeAt nodes j .kind < 4) → bitOr high (getD nodes (k * 9) 0 / 4) ≡ 0 → (j : ℕ) → from ≤ j → j < k + 1 → nodeAt nodes j .kind < 4
-low-next nodes from k high inv e j g h = go (eqb j k) refl
+-- the first and the last words of records that have no high bit, of one record more
+pub small-next : (nodes : List ℕ) (from k high : ℕ) → (high ≡ 0 → (j : ℕ) → from ≤ j → j < k → (getD nodes (j * 9) 0 < 2 ^ 32) × (getD nodes (j * 9 + 8) 0 < 2 ^ 32))
+    → bitOr high (bitOr (getD nodes (k * 9) 0) (getD nodes (k * 9 + 8) 0) / 2 ^ 32) ≡ 0 → (j : ℕ) → from ≤ j → j < k + 1 → (getD nodes (j * 9) 0 < 2 ^ 32) × (getD nodes (j * 9 + 8) 0 < 2 ^ 32)
+small-next nodes from k high inv e j g h = go (eqb j k) refl
   where
-    go : (b : Bool) → eqb j k ≡ b → nodeAt nodes j .kind < 4
-    go true q =
-        let z : nodeAt nodes j .kind ≡ getD nodes (k * 9) 0 = ap (λ (i : ℕ). nodeAt nodes i .kind) (eqb-true j k q) ∙ kind-word nodes k in
-        omega (arith, z, none-set high (getD nodes (k * 9) 0 / 4) e .1)
-    go false q = inv (none-set high (getD nodes (k * 9) 0 / 4) e .0) j g (omega (arith, h, eqb-false j k q))
+    none : (high ≡ 0) × (bitOr (getD nodes (k * 9) 0) (getD nodes (k * 9 + 8) 0) / 2 ^ 32 ≡ 0)
+    none = none-set high (bitOr (getD nodes (k * 9) 0) (getD nodes (k * 9 + 8) 0) / 2 ^ 32) e
+
+    go : (t : Bool) → eqb j k ≡ t → (getD nodes (j * 9) 0 < 2 ^ 32) × (getD nodes (j * 9 + 8) 0 < 2 ^ 32)
+    go true q = subst (λ (i : ℕ). (getD nodes (i * 9) 0 < 2 ^ 32) × (getD nodes (i * 9 + 8) 0 < 2 ^ 32)) (sym (eqb-true j k q)) (both-small (getD nodes (k * 9) 0) (getD nodes (k * 9 + 8) 0) (none .1))
+    go false q = inv (none .0) j g (omega (arith, h, eqb-false j k q))
 
 module _ (nodes : List ℕ) (count : ℕ) (order : List ℕ) (from : ℕ) where
   -- what a step does if its record is a cell's with two wires

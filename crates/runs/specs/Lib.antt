@@ -3,4 +3,5 @@ pub mod Runs
 pub mod Fit
 pub mod Work
 pub mod Steps
+pub mod Storing
 pub mod Calls

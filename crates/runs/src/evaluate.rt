@@ -1,7 +1,7 @@
 // `evaluate`: the outputs of the storage order, two-valued.
 ghost use mathlib.Core.Path.{_≡_};
 ghost use mathlib.Core.Bool.{true, false};
-ghost use mathlib.Core.List.{List, [], _++_};
+ghost use mathlib.Core.List.{List, _++_};
 ghost use Prim.Native.Nat.{ℕ, _+_, _-_, _*_, _/_, _<_, _≤_};
 ghost use lib.Dec.{ltb};
 ghost use lib.ListN.{length, getD, replicate};
@@ -10,11 +10,11 @@ ghost use Rattle.circuit.specs.declared.refusals.Checked.the-variants.{Sound, R
 ghost use Rattle.circuit.specs.Records.{nodesOf};
 ghost use Rattle.circuit.specs.Check.{nodesIn, wiresIn};
 ghost use Rattle.runs.specs.Values.{storageValues, evaluated};
-ghost use Rattle.runs.specs.Fit.{Accepted};
 ghost use Rattle.runs.specs.Work.{Tells, Passing, Next, Settled, Valued};
-ghost use Rattle.runs.specs.Steps.{Standing};
+ghost use Rattle.runs.specs.Storing.{Worked, Fails};
 ghost use Rattle.runs.specs.Calls.{evaluateFault, evaluateCall, evaluatedResult};
 use crate::ahead::counts_guessed;
+use crate::ahead::stretch_end;
 use crate::entries::cell_entry;
 use crate::inputs::mark_all;
 use crate::inputs::put_inputs;
@@ -52,17 +52,29 @@ pub fn put_cell(nodes: &[usize], k: usize, guessed: bool, values: &mut [u8]) -> 
     false
 }
 
-// The cells in storage order, each checked (15, 16), then worked out.
-pub fn put_cells(nodes: &[usize], count: usize, guessed: bool, values: &mut [u8]) -> bool
-    requires { ⌜ (count * 9 ≤ length (now nodes)) × (count ≤ length (now values)) ⌝ }
-    ensures { λ r. ⌜ (r ≡ true → (k : ℕ) → k < count → Settled (now (nodes .entry)) k (now (values .entry))) × ((assignment : List ℕ) → Accepted (now (nodes .entry)) count → ((i : ℕ) → getD assignment i 0 < 2) → Standing (nodesOf (now (nodes .entry)) count) assignment [] (now (values .entry)) → (r ≡ true) × ((k : ℕ) → k < count → getD (now (values .exit)) k 0 ≡ getD (storageValues (nodesOf (now (nodes .entry)) count) assignment) k 0)) ⌝ }
+// The nodes from one number up to another in storage order, each checked (15, 16), then worked out if it is a cell. False where one fails.
+pub fn put_cells(nodes: &[usize], from: usize, end: usize, guessed: bool, values: &mut [u8]) -> bool
+    requires { ⌜ (end * 9 ≤ length (now nodes)) × (end ≤ length (now values)) × (from ≤ end) × ((k : ℕ) → k < from → getD (now values) k 0 < 2) ⌝ }
+    ensures { λ r. ⌜ ((count : ℕ) (old : List ℕ) → end ≤ count → count ≤ length old → Worked (now (nodes .entry)) count old from (now (values .entry)) → (r ≡ true → Worked (now (nodes .entry)) count old end (now (values .exit))) × (r ≡ false → Fails (now (nodes .entry)) count old)) ⌝ }
 {
-    for k in 0..count {
+    for k in from..end {
         if put_cell(nodes, k, guessed, values) {} else {
             return false;
         }
     }
     true
+}
+
+// All of them. The first few are called for by themselves, which keeps a compiler from putting the loop into the exported call, where it would have too few registers.
+pub fn put_all(nodes: &[usize], count: usize, guessed: bool, values: &mut [u8]) -> bool
+    requires { ⌜ (count * 9 ≤ length (now nodes)) × (count ≤ length (now values)) ⌝ }
+    ensures { λ r. ⌜ (r ≡ true → Worked (now (nodes .entry)) count (now (values .entry)) count (now (values .exit))) × (r ≡ false → Fails (now (nodes .entry)) count (now (values .entry))) ⌝ }
+{
+    let few = stretch_end(0, count, count);
+    if put_cells(nodes, 0, few, guessed, values) {
+        return put_cells(nodes, few, count, guessed, values);
+    }
+    false
 }
 
 // The inputs, then the cells. False where a node fails or the inputs are not as many as the values.
@@ -72,7 +84,7 @@ pub fn put_values(nodes: &[usize], count: usize, assignment: &[u8], values: &mut
 {
     mark_all(values);
     if put_inputs(nodes, count, assignment, values) {
-        return put_cells(nodes, count, counts_guessed(nodes, count), values);
+        return put_all(nodes, count, counts_guessed(nodes, count), values);
     }
     false
 }

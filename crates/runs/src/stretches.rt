@@ -80,13 +80,13 @@ pub fn run_stretches(
 {
     let guessed = counts_guessed(nodes, count);
     let mut lead = first_lead(count);
-    let mut from = stretch_end(0, order.len());
+    let mut from = stretch_end(0, order.len(), count);
     let mut how = run_stretch(answers, nodes, count, order, true, guessed, 0, from, values);
     if how == 0 {
         return false;
     }
     while from < order.len() {
-        let end = stretch_end(from, order.len());
+        let end = stretch_end(from, order.len(), count);
         lead = look_ahead(nodes, count, order, from, end, lead);
         how = run_stretch(
             answers,

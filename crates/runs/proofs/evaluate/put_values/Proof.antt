@@ -19,14 +19,14 @@ put-inputs-requires c κs = marked-puttable (c .before .before .before .before .
 counts-guessed-requires : tie.Need-counts-guessed-requires
 counts-guessed-requires c κs = search needs
 
-put-cells-requires : tie.Need-put-cells-requires
-put-cells-requires c κs = search needs
+put-all-requires : tie.Need-put-all-requires
+put-all-requires c κs = search needs
 
 same-length : tie.Need-same-length
 same-length c = search needs
 
 returns : tie.Need-returns
-returns c = values-tell (c .before .before .before .before .before .before .before .before .before .before .before .before .before .before .before .before .before .args .nodes .now) (c .before .before .before .before .before .before .before .before .before .before .before .before .before .before .before .before .before .args .count) (c .before .before .before .before .before .before .before .before .before .before .before .before .before .before .before .before .before .args .assignment .now) (length (c .before .before .before .before .before .before .before .before .before .before .before .before .before .before .before .before .before .args .values .now)) _ (c .before .before .before .before .before .before .before .before .before .before .before .before .before .before .before .before .before .pre .0) (c .before .before .before .before .before .before .before .before .before .before .before .before .mark-all .ensures) (c .before .before .before .before .before .before .before .before .before .before .before .before .before .before .before .before .before .pre .1) (c .before .before .before .before .before .before .before .before .before .before .before .before .before .before .before .before .before .pre .2) _ (c .before .before .put-cells .last .1 .1 .1 .0) (c .before .before .put-cells .result) (c .before .before .before .before .before .before .before .before .put-inputs .ensures .0 (c .before .before .before .before .before .if1 .taken)) (λ b. c .before .before .before .before .before .before .before .before .put-inputs .ensures .1 b .1) (c .before .before .put-cells .ensures .0) (c .before .before .put-cells .ensures .1)
+returns c = values-tell (c .before .before .before .before .before .before .before .before .before .before .before .before .before .before .before .before .before .args .nodes .now) (c .before .before .before .before .before .before .before .before .before .before .before .before .before .before .before .before .before .args .count) (c .before .before .before .before .before .before .before .before .before .before .before .before .before .before .before .before .before .args .assignment .now) (length (c .before .before .before .before .before .before .before .before .before .before .before .before .before .before .before .before .before .args .values .now)) _ (c .before .before .before .before .before .before .before .before .before .before .before .before .before .before .before .before .before .pre .0) (c .before .before .before .before .before .before .before .before .before .before .before .before .mark-all .ensures) (c .before .before .before .before .before .before .before .before .before .before .before .before .before .before .before .before .before .pre .1) (c .before .before .before .before .before .before .before .before .before .before .before .before .before .before .before .before .before .pre .2) _ (c .before .before .put-all .last .1 .1 .1 .0) (c .before .before .put-all .result) (c .before .before .before .before .before .before .before .before .put-inputs .ensures .0 (c .before .before .before .before .before .if1 .taken)) (λ b. c .before .before .before .before .before .before .before .before .put-inputs .ensures .1 b .1) (c .before .before .put-all .ensures .0) (c .before .before .put-all .ensures .1)
 
 same-length-2 : tie.Need-same-length-2
 same-length-2 c = search needs
@@ -41,7 +41,7 @@ put-values-spec =
     mark-all-requires
     put-inputs-requires
     counts-guessed-requires
-    put-cells-requires
+    put-all-requires
     same-length
     returns
     same-length-2

@@ -45,7 +45,7 @@ stretch-end-requires-2 : tie.Need-stretch-end-requires-2 Inv-loop μ-loop
 stretch-end-requires-2 c κs = c .before .loop .inv .2
 
 look-ahead-requires : tie.Need-look-ahead-requires Inv-loop μ-loop
-look-ahead-requires c κs = (c .before .before .before .before .before .before .before .before .before .before .before .before .before .before .pre .1 .room, c .stretch-end2 .ensures .0, c .stretch-end2 .ensures .1, c .before .before .loop .inv .4)
+look-ahead-requires c κs = (c .before .before .before .before .before .before .before .before .before .before .before .before .before .before .pre .1 .room, c .stretch-end2 .ensures .2 (c .before .loop-test .taken), c .stretch-end2 .ensures .1, c .before .before .loop .inv .4)
 
 run-stretch-requires-2 : tie.Need-run-stretch-requires-2 Inv-loop μ-loop
 run-stretch-requires-2 c κs = (c .before .before .before .before .before .before .before .before .before .before .before .before .before .before .before .before .pre .0, c .before .before .before .before .loop .inv .0 .steppable, c .before .before .stretch-end2 .ensures .0, c .before .before .stretch-end2 .ensures .1)
