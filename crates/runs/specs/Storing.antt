@@ -16,7 +16,8 @@ pub record Begun (nodes : List ℕ) (count : ℕ) (before assignment : List ℕ)
   pub bits : (i : ℕ) → getD assignment i 0 < 2
   pub standing : Standing (nodesOf nodes count) assignment [] before
 
--- from such a store on, node k is next: the nodes before it are settled and have the storage order's values
+-- "from node 0 up, an input has its assigned value and a cell the cell rule's answer": from such a store on, node k is next, and the nodes before it are settled and have
+-- these values
 pub record Worked (nodes : List ℕ) (count : ℕ) (before : List ℕ) (k : ℕ) (values : List ℕ) : Type 0 where
   pub inside : k ≤ count
   pub kept : length values ≡ length before

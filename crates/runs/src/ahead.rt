@@ -3,6 +3,7 @@
 ghost use mathlib.Core.Path.{_≡_};
 ghost use mathlib.Core.Bool.{true, false};
 ghost use Prim.Native.Nat.{ℕ, _+_, _-_, _*_, _^_, _<_, _≤_};
+ghost use lib.Dec.{ltb};
 ghost use lib.ListN.{length, getD};
 ghost use Rattle.circuit.specs.Records.{nodeAt};
 
@@ -26,7 +27,9 @@ pub fn counts_guessed(nodes: &[usize], count: usize) -> bool
 }
 
 // More nodes than some cache may hold the records of: the records that a stretch reaches are looked at ahead of its steps.
-pub fn many(count: usize) -> bool {
+pub fn many(count: usize) -> bool
+    ensures { λ r. ⌜ r ≡ ltb 65536 count ⌝ }
+{
     65536 < count
 }
 
