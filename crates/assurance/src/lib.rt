@@ -1,4 +1,7 @@
 // Demand 3, carried by the code: the order, the run along it and `evaluate`, on lent areas.
+
+#![tactic(auto)]
+
 ghost use Rattle.std.specs.Prelude.{◌≡◌, ◌*◌, ◌≤◌, ◌<◌, length, take, replicate};
 ghost use Rattle.circuit.specs.declared.refusals.Refusal.TheVariants.{UnfitOrder};
 ghost use Rattle.assurance.specs.Carried.{RanThenEvaluated, Cleared, Carries};
@@ -12,7 +15,7 @@ use schedule::ordering::clear_all;
 use schedule::{Ordered, scheduled_gates_by_key};
 
 // The answers of the run and of `evaluate`.
-#[derive(Drop)]
+#[derive(Clone, Copy)]
 pub struct Both {
     pub ran: Ran,
     pub evaluated: Evaluated,

@@ -16,7 +16,7 @@ use reading::outputs::add_output;
 use reading::records::{Counts, add_input};
 use text::bytes::is_named;
 
-#[derive(Drop)]
+#[derive(Clone, Copy)]
 pub enum Declaration {
     Input,
     Output,
@@ -37,7 +37,7 @@ pub fn declaration_of(text: &[u8], start: usize, len: usize) -> Declaration
 }
 
 // What is declared, and the one name.
-#[derive(Drop)]
+#[derive(Clone, Copy)]
 pub struct Named {
     pub fault: Checked,
     pub declaration: Declaration,
@@ -84,7 +84,7 @@ pub fn declared_name(text: &[u8], at: usize, end: usize) -> Named
 }
 
 // A fault, or none, and what has been read.
-#[derive(Drop)]
+#[derive(Clone, Copy)]
 pub struct Reading {
     pub fault: Checked,
     pub counts: Counts,

@@ -22,7 +22,7 @@ use reading::records::{Counts, Step, find_wire};
 use text::words::trim;
 
 // A gate that is read: its output, its operation, where its arguments start and end, how many they are, and the wires of the first three.
-#[derive(Drop)]
+#[derive(Clone, Copy)]
 pub struct Plan {
     pub fault: Checked,
     pub start: usize,

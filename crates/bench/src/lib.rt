@@ -1,4 +1,7 @@
 // The BENCH reader.
+
+#![tactic(auto)]
+
 pub mod declarations;
 pub mod gates;
 pub mod lines;

@@ -54,7 +54,7 @@ pub fn push_bench_lut(
 }
 
 // How far a chain is made: the nodes, the wire of what is chained, and where the next argument starts.
-#[derive(Drop)]
+#[derive(Clone, Copy)]
 pub struct Chained {
     pub fault: Checked,
     pub nodes: usize,

@@ -10,7 +10,7 @@ use names::Found;
 use reading::records::find_wire;
 
 // The wire of an argument, and where the next one starts.
-#[derive(Drop)]
+#[derive(Clone, Copy)]
 pub struct Wired {
     pub wire: Found,
     pub next: usize,
@@ -36,7 +36,7 @@ pub fn argument_wire(
 }
 
 // The wires of the first three inputs (0 where there is none), from which a gate of two or three is made.
-#[derive(Drop)]
+#[derive(Clone, Copy)]
 pub struct Wires {
     pub first: usize,
     pub second: usize,
@@ -44,7 +44,7 @@ pub struct Wires {
 }
 
 // 5, or none, and the wires of the first three inputs.
-#[derive(Drop)]
+#[derive(Clone, Copy)]
 pub struct Inputs {
     pub fault: Checked,
     pub wires: Wires,

@@ -6,7 +6,7 @@ ghost use Rattle.bench_gates.specs.Operations.{binary_of, operation_of, truth_ta
 use text::bytes::is_named;
 
 // The operations of two or more inputs.
-#[derive(Drop)]
+#[derive(Clone, Copy)]
 pub enum Binary {
     And,
     Nand,
@@ -16,7 +16,7 @@ pub enum Binary {
     Xnor,
 }
 
-#[derive(Drop)]
+#[derive(Clone, Copy)]
 pub enum Operation {
     Buf,
     Not,

@@ -27,7 +27,7 @@ pub fn find_last_byte(text: &[u8], x: u8, start: usize, len: usize) -> usize
 }
 
 // An argument, and where the next one starts: past the end if there is none.
-#[derive(Drop)]
+#[derive(Clone, Copy)]
 pub struct Argument {
     pub start: usize,
     pub len: usize,

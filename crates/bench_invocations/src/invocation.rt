@@ -11,7 +11,7 @@ use text::bytes::find_byte;
 use text::words::trim;
 
 // The operation's stretch; where the arguments start and end; how many they are.
-#[derive(Drop)]
+#[derive(Clone, Copy)]
 pub struct Invocation {
     pub fault: Checked,
     pub start: usize,

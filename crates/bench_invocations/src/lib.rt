@@ -1,3 +1,6 @@
 // Invocations of BENCH: an operation, and its arguments in parentheses.
+
+#![tactic(auto)]
+
 pub mod arguments;
 pub mod invocation;

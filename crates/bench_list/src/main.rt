@@ -1,4 +1,7 @@
 // Lists a BENCH netlist from standard input: `refused N`, or its circuit and the order of its cells.
+
+#![tactic(auto)]
+
 use bench::read::parse_bench;
 use circuit::refusals::Refusal;
 use libc::STDIN_FILENO;

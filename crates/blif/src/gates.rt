@@ -21,7 +21,7 @@ use reading::records::{Counts, Step, add_name, add_named, find_wire};
 use text::words::Word;
 
 // A gate that passed its checks, or the fault.
-#[derive(Drop)]
+#[derive(Clone, Copy)]
 pub struct Planned {
     pub fault: Checked,
     pub inputs: usize,

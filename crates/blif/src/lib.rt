@@ -1,4 +1,7 @@
 // The BLIF reader.
+
+#![tactic(auto)]
+
 pub mod gates;
 pub mod lines;
 pub mod read;

@@ -17,7 +17,7 @@ use text::bytes::find_far_byte;
 use text::words::next_word;
 
 // A fault, or none, what has been read, and whether a row may stand next.
-#[derive(Drop)]
+#[derive(Clone, Copy)]
 pub struct Reading {
     pub fault: Checked,
     pub counts: Counts,

@@ -1,4 +1,7 @@
 // Lists a BLIF netlist from standard input: `refused N`, or its circuit and the order of its cells.
+
+#![tactic(auto)]
+
 use blif::read::parse_blif;
 use circuit::refusals::Refusal;
 use libc::STDIN_FILENO;

@@ -3,21 +3,21 @@ use circuit::records::NodeNumber;
 use circuit::refusals::Refusal;
 
 // A row stored: the number of the next node.
-#[derive(Drop)]
+#[derive(Clone, Copy)]
 pub enum Step {
     Refused(Refusal),
     Next(NodeNumber),
 }
 
 // The rows stored: the number of the next node, and how many rows there were.
-#[derive(Drop)]
+#[derive(Clone, Copy)]
 pub enum Rows {
     Refused(Refusal),
     Are { next: NodeNumber, rows: usize },
 }
 
 // How many outputs were stored.
-#[derive(Drop)]
+#[derive(Clone, Copy)]
 pub enum Outputs {
     Refused(Refusal),
     Are(usize),

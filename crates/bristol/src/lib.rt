@@ -1,4 +1,7 @@
 // The reader of Bristol texts.
+
+#![tactic(auto)]
+
 pub mod answers;
 pub mod outputs;
 pub mod reader;

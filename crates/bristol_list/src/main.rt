@@ -1,4 +1,7 @@
 // Lists a Bristol netlist from standard input: `refused N`, or its circuit and the order of its cells.
+
+#![tactic(auto)]
+
 use bristol::reader::parse_bristol;
 use circuit::refusals::Refusal;
 use libc::STDIN_FILENO;

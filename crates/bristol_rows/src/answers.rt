@@ -4,7 +4,7 @@ use circuit::refusals::Refusal;
 use text::numbers::Number;
 
 // The next word of a line as a number, and where it ends; of length 0 if there is none.
-#[derive(Drop)]
+#[derive(Clone, Copy)]
 pub struct NextNumber {
     pub len: usize,
     pub number: Number,
@@ -12,21 +12,21 @@ pub struct NextNumber {
 }
 
 // A sum, if it is at most a limit.
-#[derive(Drop)]
+#[derive(Clone, Copy)]
 pub enum Sum {
     Is(usize),
     Over,
 }
 
 // The widths of a group line: how many, and their sum.
-#[derive(Drop)]
+#[derive(Clone, Copy)]
 pub enum Widths {
     Invalid,
     Are { count: usize, sum: Sum },
 }
 
 // A group line: the sum of its widths.
-#[derive(Drop)]
+#[derive(Clone, Copy)]
 pub enum Group {
     Invalid,
     Mismatch,
@@ -34,13 +34,13 @@ pub enum Group {
 }
 
 // The first line.
-#[derive(Drop)]
+#[derive(Clone, Copy)]
 pub enum Counts {
     Refused(Refusal),
     Are { gates: usize, wires: usize },
 }
 
-#[derive(Drop)]
+#[derive(Clone, Copy)]
 pub struct Head {
     pub gates: usize,
     pub wires: usize,
@@ -49,14 +49,14 @@ pub struct Head {
 }
 
 // The header, and where the rows begin.
-#[derive(Drop)]
+#[derive(Clone, Copy)]
 pub enum Header {
     Refused(Refusal),
     Is { head: Head, rest: usize },
 }
 
 // The input wires of a row: the slots of the first two, whether one of all is not driven, whether one is no number.
-#[derive(Drop)]
+#[derive(Clone, Copy)]
 pub struct Slots {
     pub first: usize,
     pub second: usize,
@@ -65,14 +65,14 @@ pub struct Slots {
 }
 
 // The input wires, and where their words end.
-#[derive(Drop)]
+#[derive(Clone, Copy)]
 pub enum Inputs {
     Missing,
     Are { slots: Slots, next: usize },
 }
 
 // What an operation makes: its input, or a cell with a table.
-#[derive(Drop)]
+#[derive(Clone, Copy)]
 pub enum Made {
     Refused(Refusal),
     Alias,
@@ -80,7 +80,7 @@ pub enum Made {
 }
 
 // What a row makes of its output wire.
-#[derive(Drop)]
+#[derive(Clone, Copy)]
 pub enum Row {
     Refused(Refusal),
     Alias { out: WireNumber, wire: BoolWire },

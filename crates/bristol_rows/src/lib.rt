@@ -1,4 +1,7 @@
 // The lines of a Bristol text: its header, and a gate row.
+
+#![tactic(auto)]
+
 pub mod answers;
 pub mod header;
 pub mod numbers;

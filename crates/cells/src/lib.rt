@@ -1,4 +1,7 @@
 // Cells: tables packed in a number, and the three-valued answers of a cell.
+
+#![tactic(auto)]
+
 ghost use Rattle.std.specs.Prelude.{◌≡◌, ◌<◌};
 ghost use Rattle.cells.specs.Cells.{entry, set_entry, AnswerTable};
 

@@ -3,20 +3,20 @@ ghost use Rattle.std.specs.Prelude.{◌≡◌, ◌+◌, ◌*◌, ◌^◌, ◌<�
 ghost use Rattle.circuit.specs.Records.{wire_word, wire_of, name_words, name_from, encode_node, NodeIs, encode_output, OutputIs, wires_of, no_wire};
 
 // A place in the circuit.
-#[derive(Drop)]
+#[derive(Clone, Copy)]
 pub struct NodeNumber(pub usize);
 
 // A wire of a Bristol file.
-#[derive(Drop)]
+#[derive(Clone, Copy)]
 pub struct WireNumber(pub usize);
 
-#[derive(Drop)]
+#[derive(Clone, Copy)]
 pub enum BoolWire {
     Const(bool),
     Node(NodeNumber),
 }
 
-#[derive(Drop)]
+#[derive(Clone, Copy)]
 pub enum Name {
     Stretch {
         start: usize,
@@ -30,7 +30,7 @@ pub enum Name {
     Number(WireNumber),
 }
 
-#[derive(Drop)]
+#[derive(Clone, Copy)]
 pub struct BoolNode {
     pub kind: usize,
     pub count: usize,
@@ -40,7 +40,7 @@ pub struct BoolNode {
     pub second: BoolWire,
 }
 
-#[derive(Drop)]
+#[derive(Clone, Copy)]
 pub struct Output {
     pub name: Name,
     pub wire: BoolWire,

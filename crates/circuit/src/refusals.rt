@@ -2,7 +2,7 @@
 ghost use Rattle.std.specs.Prelude.{◌≡◌};
 ghost use Rattle.circuit.specs.Refusals.{number_of};
 
-#[derive(Drop)]
+#[derive(Clone, Copy)]
 pub enum Refusal {
     TextTooLong,
     NotAscii,
@@ -28,14 +28,14 @@ pub enum Refusal {
 }
 
 // The answer of a check.
-#[derive(Drop)]
+#[derive(Clone, Copy)]
 pub enum Checked {
     Sound,
     Refused(Refusal),
 }
 
 // The answer of a reader: how many nodes and outputs the circuit has.
-#[derive(Drop)]
+#[derive(Clone, Copy)]
 pub enum Read {
     Circuit { nodes: usize, outputs: usize },
     Refused(Refusal),

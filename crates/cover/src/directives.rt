@@ -5,7 +5,7 @@ ghost use Rattle.cover.specs.Directives.{directive};
 
 use text::bytes::is_word;
 
-#[derive(Drop)]
+#[derive(Clone, Copy)]
 pub enum Directive {
     Ignored,
     Inputs,

@@ -7,7 +7,7 @@ ghost use Rattle.cover.specs.Gates.{note_word, GateIs};
 use text::words::{Word, next_name};
 
 // How many words there are, the first two, and the last.
-#[derive(Drop)]
+#[derive(Clone, Copy)]
 pub struct Gate {
     pub count: usize,
     pub first: Word,

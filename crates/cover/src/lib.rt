@@ -1,4 +1,7 @@
 // BLIF's rows, and the words and directives of its lines.
+
+#![tactic(auto)]
+
 pub mod directives;
 pub mod gates;
 pub mod rows;

@@ -13,14 +13,14 @@ use text::bytes::find_byte;
 use text::words::next_word;
 
 // A value or a table, unless the row is bad.
-#[derive(Drop)]
+#[derive(Clone, Copy)]
 pub enum Cover {
     Value(usize),
     Bad,
 }
 
 // Where a row's pattern starts, and its value.
-#[derive(Drop)]
+#[derive(Clone, Copy)]
 pub enum Row {
     Sets { start: usize, value: usize },
     BadRow,

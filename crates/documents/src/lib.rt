@@ -1,1 +1,3 @@
 // What the public documents say a text means, and that the readers agree: definitions and theorems alone.
+
+#![tactic(auto)]

@@ -1,5 +1,8 @@
 // Replays recorded answers of the Rust `logical_lines`: data/joined_lines has a record for each text, its length in a byte, its bytes,
 // the length of its joined text in a byte, and that text. Prints how many records there are and how many come out the same.
+
+#![tactic(auto)]
+
 ghost use Rattle.std.specs.Prelude.{◌≤◌, ◌<◌, length};
 
 use libc::STDOUT_FILENO;
@@ -7,7 +10,7 @@ use text::joining::logical_lines;
 use text::numbers::wide;
 
 // Whether a record comes out the same, and where the next one starts; the same place if the data ends first.
-#[derive(Drop)]
+#[derive(Clone, Copy)]
 struct Replayed {
     same: bool,
     next: usize,

@@ -68,7 +68,7 @@ pub fn add_bytes(sum: u32, word: usize) -> u32
 }
 
 // The sum and the mix of the bytes so far.
-#[derive(Drop)]
+#[derive(Clone, Copy)]
 pub struct Sums {
     pub sum: u32,
     pub mix: usize,
@@ -104,7 +104,7 @@ pub fn sum_words(text: &[u8], start: usize, len: usize) -> Sums
 }
 
 // The chain of a name (the 32-bit wrapping sum of its bytes, modulo 256) and its trail.
-#[derive(Drop)]
+#[derive(Clone, Copy)]
 pub struct Hash {
     pub bucket: usize,
     pub trail: usize,

@@ -1,4 +1,7 @@
 // The table of names: 256 chain heads, and records of four words in a lent area: a name and its trail, its wire, and six links.
+
+#![tactic(auto)]
+
 ghost use Rattle.std.specs.Prelude.{◌≡◌, ◌+◌, ◌*◌, ◌%◌, ◌<◌, ◌≤◌, length, if◌then◌else◌};
 ghost use Rattle.laws.specs.Stretches.{stretch, same_bytes};
 ghost use Rattle.names.specs.Names.{lookup};
@@ -9,14 +12,14 @@ use crate::hashing::{four_bytes, hash_of, last_bytes};
 pub mod hashing;
 
 // The wire's word of a name, or that there is no such name.
-#[derive(Drop)]
+#[derive(Clone, Copy)]
 pub enum Found {
     At(usize),
     Nothing,
 }
 
 // Where a search ends: the chain, the last record on the way (0: none), the digit that chose its link, and the name's trail.
-#[derive(Drop)]
+#[derive(Clone, Copy)]
 pub struct End {
     pub bucket: usize,
     pub last: usize,

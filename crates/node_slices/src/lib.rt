@@ -1,4 +1,7 @@
 // The circuit check over a lent slice of node records.
+
+#![tactic(auto)]
+
 ghost use Rattle.std.specs.Prelude.{◌≡◌, length};
 ghost use Rattle.circuit.specs.Refusals.{checked_number};
 ghost use Rattle.circuit.specs.Check.{check_node, check_nodes};

@@ -1,4 +1,7 @@
 // The circuit check over a slice, by way of an array: variants of the circuit of 01's listing, an answer to a line.
+
+#![tactic(auto)]
+
 ghost use Rattle.std.specs.Prelude.{◌≡◌};
 ghost use Rattle.node_slices.specs.Slices.{slice_fault};
 

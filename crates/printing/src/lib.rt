@@ -1,4 +1,7 @@
 // What the list programs share: the order of the cells, and the lines written one after the other.
+
+#![tactic(auto)]
+
 ghost use Rattle.std.specs.Prelude.{◌≡◌, ◌+◌, ◌*◌, ◌/◌, ◌≤◌, length};
 ghost use Rattle.schedule.specs.Call.{leaves, schedule_call};
 ghost use Rattle.listing.specs.Listing.{keys_from};

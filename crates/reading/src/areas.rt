@@ -10,7 +10,7 @@ use text::bytes::is_ascii;
 use text::joining::logical_lines;
 
 // A text that is refused, or how long its joined text is.
-#[derive(Drop)]
+#[derive(Clone, Copy)]
 pub enum Prepared {
     Refused(Refusal),
     Joined(usize),

@@ -1,4 +1,7 @@
 // What the readers of joined texts share.
+
+#![tactic(auto)]
+
 pub mod areas;
 pub mod outputs;
 pub mod records;

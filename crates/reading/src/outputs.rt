@@ -11,7 +11,7 @@ use circuit::refusals::{Checked, Refusal};
 use names::Found;
 
 // A fault, or none, and how many nodes and outputs there are.
-#[derive(Drop)]
+#[derive(Clone, Copy)]
 pub struct Ended {
     pub fault: Checked,
     pub nodes: usize,

@@ -13,21 +13,21 @@ use names::Found;
 use text::bytes::is_word;
 
 // How many nodes and names there are.
-#[derive(Drop)]
+#[derive(Clone, Copy)]
 pub struct Counts {
     pub nodes: usize,
     pub names: usize,
 }
 
 // A fault, or none, and the counts.
-#[derive(Drop)]
+#[derive(Clone, Copy)]
 pub struct Step {
     pub fault: Checked,
     pub counts: Counts,
 }
 
 // A fault, or none, and a count.
-#[derive(Drop)]
+#[derive(Clone, Copy)]
 pub struct Counted {
     pub fault: Checked,
     pub count: usize,

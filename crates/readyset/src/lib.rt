@@ -1,5 +1,8 @@
 // A set of numbers below n in words of 64 bits, each level followed by its summary: bit w of the summary says that word w is not 0.
 // It takes at most n words, and each call looks at one word of a level.
+
+#![tactic(auto)]
+
 ghost use Rattle.std.specs.Prelude.{◌+◌, ◌*◌, ◌≤◌, ◌<◌, length};
 ghost use Rattle.laws.specs.Digits.{Turned};
 ghost use Rattle.readyset.specs.Sets.{member, Levels, First, Last, Marked};

@@ -1,4 +1,7 @@
 // The static library: each call answers the refusal's number (0 where it accepts), and counts through references (0 on a refusal).
+
+#![tactic(auto)]
+
 pub mod answers;
 pub mod ordering;
 pub mod parsing;

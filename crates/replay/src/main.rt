@@ -1,5 +1,8 @@
 // Replays recorded answers of the Rust: each file of data/ has texts of one format, each with the listing that its circuit has
 // or with `refused N` (README.md says how they were made). Prints how many there are and how many come out the same.
+
+#![tactic(auto)]
+
 ghost use Rattle.std.specs.Prelude.{◌+◌, ◌≤◌, ◌<◌, length};
 
 use crate::formats::{lists_bench, lists_blif, lists_bristol};
@@ -11,7 +14,7 @@ mod answers;
 mod formats;
 mod longest;
 
-#[derive(Drop)]
+#[derive(Clone, Copy)]
 enum Format {
     Blif,
     Bench,
@@ -36,7 +39,7 @@ fn pair(recorded: &[u8], at: usize) -> usize
 }
 
 // Whether a record comes out the same, and where the next one starts; the same place if the data ends first.
-#[derive(Drop)]
+#[derive(Clone, Copy)]
 struct Replayed {
     same: bool,
     next: usize,
@@ -69,7 +72,7 @@ fn replay_one(format: Format, recorded: &[u8], at: usize) -> Replayed
     Replayed { same, next }
 }
 
-#[derive(Drop)]
+#[derive(Clone, Copy)]
 struct Counts {
     records: u64,
     same: u64,

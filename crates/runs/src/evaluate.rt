@@ -17,7 +17,7 @@ use circuit::check::validate_topological;
 use circuit::refusals::{Checked, Refusal};
 
 // How many outputs there are.
-#[derive(Drop)]
+#[derive(Clone, Copy)]
 pub enum Evaluated {
     Outputs(usize),
     Refused(Refusal),

@@ -1,4 +1,7 @@
 // What a circuit gives: `evaluate`, the three-valued run along an order list, numbered assignments.
+
+#![tactic(auto)]
+
 pub mod ahead;
 pub mod answers;
 pub mod entries;

@@ -14,7 +14,7 @@ use circuit::check::some_output_outside;
 use circuit::refusals::{Checked, Refusal};
 
 // How many inputs there are.
-#[derive(Drop)]
+#[derive(Clone, Copy)]
 pub enum Numbered {
     Inputs(usize),
     Refused(Refusal),

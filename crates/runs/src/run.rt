@@ -19,7 +19,7 @@ use circuit::check::validate_topological;
 use circuit::refusals::{Checked, Refusal};
 
 // How many cells the run worked out.
-#[derive(Drop)]
+#[derive(Clone, Copy)]
 pub enum Ran {
     Cells(usize),
     Refused(Refusal),

@@ -3,7 +3,7 @@ ghost use Rattle.std.specs.Prelude.{◌≡◌, cond, ◌+◌, ◌*◌, ◌<◌, 
 ghost use Rattle.schedule.specs.Schedule.{above, key_at};
 ghost use Rattle.schedule.specs.Areas.{key_of};
 
-#[derive(Drop)]
+#[derive(Clone, Copy)]
 pub struct Key {
     pub first: u32,
     pub second: u32,
@@ -37,7 +37,7 @@ pub fn key_at(keys: &[u32], node: usize) -> Key
 }
 
 // A node with its key.
-#[derive(Drop)]
+#[derive(Clone, Copy)]
 pub struct Best {
     pub node: usize,
     pub key: Key,

@@ -1,4 +1,7 @@
 // The schedule: an order of the cells in which each comes after the cells that it reads.
+
+#![tactic(auto)]
+
 ghost use Rattle.std.specs.Prelude.{◌≡◌};
 ghost use Rattle.schedule.specs.Call.{leaves, schedule_call};
 
@@ -15,7 +18,7 @@ pub mod tree;
 pub mod waiting;
 pub mod window;
 
-#[derive(Drop)]
+#[derive(Clone, Copy)]
 pub enum Ordered {
     Cells(usize),
     Refused(Refusal),

@@ -9,14 +9,14 @@ ghost use Rattle.schedule.specs.Areas.{Counted, PickedIs, RestIs};
 use crate::keys::{Best, better, key_at};
 use crate::waiting::ReadyCells;
 
-#[derive(Drop)]
+#[derive(Clone, Copy)]
 pub struct Picked {
     pub node: usize,
     pub first: usize,
 }
 
 // A member, and the bits of its word above it.
-#[derive(Drop)]
+#[derive(Clone, Copy)]
 pub struct Seen {
     pub node: usize,
     pub rest: usize,

@@ -16,7 +16,7 @@ use crate::window::{Window, settle};
 use circuit::areas::clear;
 
 // How many cells are taken, and what is known of the ready ones.
-#[derive(Drop)]
+#[derive(Clone, Copy)]
 pub struct Taken {
     pub taken: usize,
     pub from: usize,

@@ -8,7 +8,7 @@ ghost use Rattle.schedule.specs.Tree.{Kept};
 use crate::reads::cells_read;
 
 // What is known of the ready cells: none is below `from`, and `number` counts them.
-#[derive(Drop)]
+#[derive(Clone, Copy)]
 pub struct ReadyCells {
     pub from: usize,
     pub number: usize,

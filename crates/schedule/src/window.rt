@@ -5,7 +5,7 @@ ghost use Rattle.schedule.specs.Tree.{Tracked, Fronted};
 use crate::tree::refresh;
 
 // Of `number` ready cells `inside` are below `limit`, and in the tree.
-#[derive(Drop)]
+#[derive(Clone, Copy)]
 pub struct Window {
     pub limit: usize,
     pub inside: usize,

@@ -61,7 +61,7 @@ pub fn put_stretch(text: &[u8], start: usize, len: usize, joined: &mut [u8], out
 }
 
 // Where the writing stands: how many bytes are written, and whether something is gathered.
-#[derive(Drop)]
+#[derive(Clone, Copy)]
 pub struct Put {
     pub out: usize,
     pub gathered: bool,

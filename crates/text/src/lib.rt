@@ -1,4 +1,7 @@
 // Texts: blanks, words, lines, joined lines and numbers.
+
+#![tactic(auto)]
+
 pub mod blanks;
 pub mod bytes;
 pub mod eights;

@@ -8,7 +8,7 @@ use crate::eights::least;
 use crate::words::{Word, trim};
 
 // A line as a stretch, and where the next raw line starts.
-#[derive(Drop)]
+#[derive(Clone, Copy)]
 pub struct Line {
     pub start: usize,
     pub len: usize,

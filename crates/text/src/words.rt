@@ -7,7 +7,7 @@ ghost use Rattle.text.specs.Words.{words, next_word};
 use crate::blanks::{find_blank, scan_blank, skip_blanks, trim_end};
 
 // A stretch of a text.
-#[derive(Drop)]
+#[derive(Clone, Copy)]
 pub struct Word {
     pub start: usize,
     pub len: usize,

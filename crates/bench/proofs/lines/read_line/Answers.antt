@@ -1,0 +1,17 @@
+use Prim.Native.Nat.{◌-◌}
+use mathlib.Core.Path.{◌∙◌}
+use native.Mathlib.Omega.{arith}
+use lib.ListN.{length}
+use Rattle.reading.specs.Reading.{places_in}
+use Rattle.reading.specs.Holding.{held_of, state_of}
+use Rattle.bench.proofs.LineLaws.{line_gate, line_declaration}
+use Rattle.bench.proofs.lines.read_line.Goals as goal
+
+pub gate_line-s-requires : goal.gate_line-s-requires
+gate_line-s-requires c = (c.requires.kept, (omega (arith, c.find_byte-cut.ensures.0), c.if-cut-end.true, c.requires.words_kept.1.1))
+
+pub returns-then-cut-end : goal.returns-then-cut-end
+returns-then-cut-end c = (c.gate_line-s.ensures.kept_2, (c.requires.words_kept.0, line_gate c.args.text.now (places_in (length c.args.nodes.now) (length c.args.names.now) (length c.args.outputs.now)) c.args.at c.args.end c.find_byte-cut.result c.requires.words_kept.1.0 c.find_byte-cut.ensures.0 (state_of c.args.nodes.now c.args.names.now c.args.outputs.now c.args.counts c.args.n) c.if-cut-end.true c.gate_line-s.result.fault (held_of c.gate_line-s.new.nodes c.gate_line-s.new.names c.gate_line-s.result.counts) (c.gate_line-s.ensures.by_index (length c.args.outputs.now))))
+
+pub returns : goal.returns
+returns c = (c.declaration_line.ensures.kept_2, (c.declaration_line.ensures.words_kept_2.0, c.declaration_line.ensures.words_kept_2.1 ∙ line_declaration c.args.text.now (places_in (length c.args.nodes.now) (length c.args.names.now) (length c.args.outputs.now)) c.args.at c.args.end c.find_byte-cut.result c.requires.words_kept.1.0 c.find_byte-cut.ensures.0 (state_of c.args.nodes.now c.args.names.now c.args.outputs.now c.args.counts c.args.n) c.if-cut-end.false))

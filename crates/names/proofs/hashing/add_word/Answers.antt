@@ -1,0 +1,7 @@
+use Rattle.std.proofs.Common.{refl, arith}
+use Rattle.names.specs.Chains.{mix_in}
+use Rattle.names.proofs.hashing.add_word.Goals as goal
+
+pub returns : goal.returns
+unfolding mix_in
+returns c = (c.add_bytes-sum.ensures, (refl, omega arith))

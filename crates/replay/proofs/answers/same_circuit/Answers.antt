@@ -1,0 +1,16 @@
+use Prim.Native.Nat.{◌≤◌}
+use native.Mathlib.Omega.{arith}
+use Rattle.printing.proofs.Bounds.{cells_within, front_size, circuit-room}
+use Rattle.replay.proofs.answers.same_circuit.Goals as goal
+
+pub slice_bounds-order-end : goal.slice_bounds-order-end
+slice_bounds-order-end c = omega (arith, cells_within _ _ _ _ _ _ _ _ _ _ _ _ c.order_cells-ordered.ensures c.in-Cells.is)
+
+pub slice_bounds-same_lines-end : goal.slice_bounds-same_lines-end
+slice_bounds-same_lines-end c = front_size _ _ (omega (arith, cells_within _ _ _ _ _ _ _ _ _ _ _ _ c.order_cells-ordered.ensures c.in-Cells.is))
+
+pub same_lines-requires : goal.same_lines-requires
+same_lines-requires c =
+    let n = c.in-Cells.n in
+    let h : n ≤ 1024 = omega (arith, cells_within _ _ _ _ _ _ _ _ _ _ _ _ c.order_cells-ordered.ensures c.in-Cells.is) in
+    circuit-room _ c.order_cells-ordered.new.order _ n c.requires.0 h (omega arith) c.line_room-line.ensures

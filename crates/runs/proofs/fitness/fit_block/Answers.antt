@@ -1,0 +1,15 @@
+use mathlib.Core.Path.{ap, ◌∙◌}
+use Prim.Native.Nat.{ℕ, ◌*◌}
+use lib.ListN.{length}
+use Rattle.circuit.specs.Records.{nodes_of}
+use Rattle.circuit.specs.Graph.{graph_of}
+use Rattle.runs.specs.Fit.{within, fit_in}
+use Rattle.runs.proofs.Marking.{marks_none}
+use Rattle.runs.proofs.fitness.fit_block.Goals as goal
+
+pub fit_pass-requires : goal.fit_pass-requires
+fit_pass-requires c = (c.requires, marks_none c.args.lo (length c.args.marks.now) _ c.clear.ensures)
+
+pub returns : goal.returns
+returns c =
+    c.fit_pass.ensures ∙ ap (λ (size : ℕ). fit_in (within c.args.lo (size * 64)) (graph_of (nodes_of c.args.nodes.now c.args.count)) [] c.args.order.now) c.clear.auto.0

@@ -1,0 +1,13 @@
+use mathlib.Core.Path.{◌≡◌}
+use Prim.Native.Nat.{◌-◌}
+use lib.ListN.{length}
+use Rattle.circuit.specs.Records.{nodes_of}
+use Rattle.circuit.specs.Graph.{graph_of}
+use Rattle.runs.proofs.Blocks.{Covered}
+use Rattle.runs.proofs.fitness.fit_blocks.Given as goal
+
+abbrev pub invariant-loop-lo : goal.invariant-loop-lo
+invariant-loop-lo l = Covered (graph_of (nodes_of l.nodes l.count)) l.order l.lo × (length l.marks ≡ length l.initial.marks)
+
+abbrev pub decreases-loop-lo : goal.decreases-loop-lo
+decreases-loop-lo l = l.count - l.lo

@@ -1,0 +1,36 @@
+use mathlib.Core.Path.{refl, sym, ap, ◌∙◌}
+use Prim.Native.Nat.{◌-◌, zero-le}
+use native.Mathlib.Omega.{arith}
+use Rattle.laws.proofs.Lists.{some_here, some-later, some_past, none_at}
+use Rattle.circuit.specs.Records.{wires_of, no_wire}
+use Rattle.circuit.specs.Check.{not_below}
+use Rattle.runs.specs.Fit.{wire_waits}
+use Rattle.runs.proofs.fitness.some_waits.Goals as goal
+
+pub loop-k-init : goal.loop-k-init
+loop-k-init c = (refl, zero-le, c.wire_count-wires.ensures)
+
+pub wire_at-w-requires : goal.wire_at-w-requires
+wire_at-w-requires c = omega (arith, c.loop-k.invariant.2)
+
+pub wire_waits-requires : goal.wire_waits-requires
+wire_waits-requires c =
+    (c.requires.0, ap (not_below c.args.count) c.wire_at-w.ensures ∙ none_at (not_below c.args.count) (wires_of c.args.n) no_wire c.loop-k.k (omega (arith, c.loop-k.invariant.2)) c.requires.1)
+
+pub returns-then-wire_waits : goal.returns-then-wire_waits
+returns-then-wire_waits c =
+    sym (c.loop-k.invariant.0 ∙ some_here (wire_waits c.args.nodes.now c.args.lo c.args.marks.now) (wires_of c.args.n) no_wire c.loop-k.k (omega (arith, c.loop-k.invariant.2)) (ap (wire_waits c.args.nodes.now c.args.lo c.args.marks.now) (sym c.wire_at-w.ensures) ∙ sym c.wire_waits.ensures ∙ c.if-wire_waits.true))
+
+pub overflow_step-k : goal.overflow_step-k
+overflow_step-k c = omega (arith, c.loop-k.invariant.2)
+
+pub loop-k-preserved : goal.loop-k-preserved
+loop-k-preserved c = (
+  c.loop-k.invariant.0 ∙ some-later (wire_waits c.args.nodes.now c.args.lo c.args.marks.now) (wires_of c.args.n) no_wire c.loop-k.k (omega (arith, c.loop-k.invariant.2)) (ap (wire_waits c.args.nodes.now c.args.lo c.args.marks.now) (sym c.wire_at-w.ensures) ∙ sym c.wire_waits.ensures ∙ c.if-wire_waits.false),
+  omega arith,
+  c.loop-k.invariant.2,
+)
+
+pub returns : goal.returns
+returns c =
+    sym (c.loop-k.invariant.0 ∙ some_past (wire_waits c.args.nodes.now c.args.lo c.args.marks.now) (wires_of c.args.n) c.loop-k.k (omega (arith, c.loop-k.invariant.2)))

@@ -1,0 +1,19 @@
+use mathlib.Core.Path.{◌≡◌, ◌∙◌}
+use mathlib.Core.Bool.{true≢false, false≢true}
+use lib.ListN.{length}
+use Rattle.runs.proofs.Again.{steppable_again, walked-again}
+use Rattle.runs.proofs.plain.plain_stretch.Goals as goal
+
+pub returns-then-plain_list : goal.returns-then-plain_list
+returns-then-plain_list c = (λ e. c.plain_list.ensures.0 c.if-plain_list.true, λ e. absurd (true≢false e))
+
+pub returns : goal.returns
+returns c =
+    let k : length c.mark_again.new.values ≡ length c.args.values.now = c.mark_again.auto.1.1.1.1.0 ∙ c.plain_list.auto.1.1.1.1.1.1.0 in
+    let o = c.plain_list.ensures.1 c.if-plain_list.false in (
+      λ e. absurd (false≢true e),
+      λ e. (
+        steppable_again c.args.nodes.now c.args.count c.args.order.now c.args.from c.args.end c.requires.2 c.requires.3 c.args.values.now c.plain_list.new.values c.mark_again.new.values k o c.mark_again.ensures c.requires.1,
+        λ start old. walked-again c.args.nodes.now c.args.count c.args.order.now c.args.from c.args.end c.requires.2 c.requires.3 c.args.values.now c.plain_list.new.values c.mark_again.new.values k o c.mark_again.ensures start old,
+      ),
+    )
