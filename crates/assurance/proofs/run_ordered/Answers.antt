@@ -3,7 +3,7 @@ use Rattle.assurance.proofs.Refusing.{ran_cleared}
 use Rattle.assurance.proofs.run_ordered.Goals as goal
 
 pub returns-then-order-cells : goal.returns-then-order-cells
-returns-then-order-cells c = (λ h. absurd (omega (arith, h, c.if-order-cells.true)), (λ h. c.refuse_run.ensures, c.refuse_run.ensures.values_are))
+returns-then-order-cells c = record { ran_then_evaluated = λ h. absurd (omega (arith, h, c.if-order-cells.true)); refused_run = λ h. c.refuse_run.ensures; values_after = c.refuse_run.ensures.values_are }
 
 pub returns : goal.returns
-returns c = (λ h. c.run_and_evaluate.ensures, (λ h. absurd (omega (arith, h, c.if-order-cells.false)), ran_cleared c.args.nodes.now c.args.outputs.now _ c.args.assignment.now c.args.values.now c.args.answers.now c.args.evaluated.now c.run_and_evaluate.result _ _ _ c.run_and_evaluate.ensures))
+returns c = record { ran_then_evaluated = λ h. c.run_and_evaluate.ensures; refused_run = λ h. absurd (omega (arith, h, c.if-order-cells.false)); values_after = ran_cleared c.args.nodes.now c.args.outputs.now _ c.args.assignment.now c.args.values.now c.args.answers.now c.args.evaluated.now c.run_and_evaluate.result _ _ _ c.run_and_evaluate.ensures }

@@ -37,4 +37,4 @@ pub loop-at-preserved : goal.loop-at-preserved
 loop-at-preserved c = rw c.link-at.ensures (walk_next c.args.text.now c.args.heads.now c.args.names.now c.args.count c.requires.table (stretch c.args.text.now c.args.start c.args.len) c.loop-at.at c.loop-at.rest c.loop-at.last c.loop-at.digit c.loop-at-test.true c.loop-at.invariant)
 
 pub returns : goal.returns
-returns c = (c.hash_of-hash.ensures.bucket_value, (c.hash_of-hash.ensures.trail_value, walk_end c.args.text.now c.args.heads.now c.args.names.now c.args.count c.requires.table (stretch c.args.text.now c.args.start c.args.len) c.loop-at.at c.loop-at.rest c.loop-at.last c.loop-at.digit c.loop-at-test.false c.loop-at.invariant))
+returns c = record { bucket_value = c.hash_of-hash.ensures.bucket_value; trail_value = c.hash_of-hash.ensures.trail_value; ends_at = walk_end c.args.text.now c.args.heads.now c.args.names.now c.args.count c.requires.table (stretch c.args.text.now c.args.start c.args.len) c.loop-at.at c.loop-at.rest c.loop-at.last c.loop-at.digit c.loop-at-test.false c.loop-at.invariant }

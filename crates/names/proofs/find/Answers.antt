@@ -38,8 +38,7 @@ pub has_name-same-requires : goal.has_name-same-requires
 unfolding trail_at entry
 has_name-same-requires c =
     let l = at_in c.args.text.now c.args.heads.now c.args.names.now c.args.count c.requires.table (stretch c.args.text.now c.args.start c.args.len) c.loop-at.at c.loop-at.rest c.loop-at.invariant.on in
-    let below : c.loop-at.at - 1 < c.args.count = omega arith in
-    ((c.requires.table.inside (c.loop-at.at - 1) below, c.requires.len_in_bounds, omega (arith, c.requires.table.sized)), (ap (λ (x : ℕ). c.args.len + x * 2097152) c.hash_of-hash.ensures.trail_value.0, c.requires.table.trail (c.loop-at.at - 1) below))
+    let below : c.loop-at.at - 1 < c.args.count = omega arith in record { word_in_bounds = (c.requires.table.inside (c.loop-at.at - 1) below, c.requires.len_in_bounds, omega (arith, c.requires.table.sized)); key_value = (ap (λ (x : ℕ). c.args.len + x * 2097152) c.hash_of-hash.ensures.trail_value.0, c.requires.table.trail (c.loop-at.at - 1) below) }
 
 pub newer-last-requires : goal.newer-last-requires
 newer-last-requires c = tt

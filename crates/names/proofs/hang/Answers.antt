@@ -3,7 +3,7 @@ use Rattle.names.proofs.Links.{at_head, at_record, fits_record}
 use Rattle.names.proofs.hang.Goals as goal
 
 pub returns-then-last-eq0 : goal.returns-then-last-eq0
-returns-then-last-eq0 c = at_head c.args.heads.now c.args.names.now c.args.end.bucket c.args.end.last c.args.end.digit c.args.at c.if-last-eq0.true
+returns-then-last-eq0 c = let it = at_head c.args.heads.now c.args.names.now c.args.end.bucket c.args.end.last c.args.end.digit c.args.at c.if-last-eq0.true in record { heads_after = it.0; names_after = it.1 }
 
 pub overflow_mul-place : goal.overflow_mul-place
 overflow_mul-place c =
@@ -51,4 +51,4 @@ bounds-names-place-2 c =
     omega (arith, f.0, f.1)
 
 pub returns : goal.returns
-returns c = at_record c.args.heads.now c.args.names.now c.args.end.bucket c.args.end.last c.args.end.digit c.args.at c.link_unit-unit.result c.if-last-eq0.false c.link_unit-unit.ensures
+returns c = let it = at_record c.args.heads.now c.args.names.now c.args.end.bucket c.args.end.last c.args.end.digit c.args.at c.link_unit-unit.result c.if-last-eq0.false c.link_unit-unit.ensures in record { heads_after = it.0; names_after = it.1 }

@@ -26,7 +26,7 @@ pub four_bytes-y-requires : goal.four_bytes-y-requires
 four_bytes-y-requires c = omega arith
 
 pub returns-then-x-y : goal.returns-then-x-y
-returns-then-x-y c = four_not c.args.text.now c.args.a c.args.b c.args.len c.loop-i.i (λ i. omega (arith, c.shared_slice_known-1.given i)) c.requires.0 c.requires.1 (omega arith) (λ e. c.if-x-y.true (c.four_bytes-x.ensures.0 ∙ e ∙ sym c.four_bytes-y.ensures.0)) ∙ c.loop-i.invariant.2
+returns-then-x-y c = four_not c.args.text.now c.args.a c.args.b c.args.len c.loop-i.i (λ i. omega (arith, c.type_inv.text i)) c.requires.0 c.requires.1 (omega arith) (λ e. c.if-x-y.true (c.four_bytes-x.ensures.0 ∙ e ∙ sym c.four_bytes-y.ensures.0)) ∙ c.loop-i.invariant.2
 
 pub overflow_add-i : goal.overflow_add-i
 overflow_add-i c = omega arith
@@ -35,7 +35,7 @@ pub loop-i-smaller : goal.loop-i-smaller
 loop-i-smaller c = omega arith
 
 pub loop-i-preserved : goal.loop-i-preserved
-loop-i-preserved c = (omega arith, c.loop-i.invariant.1, four_same c.args.text.now c.args.a c.args.b c.args.len c.loop-i.i (λ i. omega (arith, c.shared_slice_known-1.given i)) c.requires.0 c.requires.1 (omega arith) (sym c.four_bytes-x.ensures.0 ∙ c.if-x-y.false ∙ c.four_bytes-y.ensures.0) ∙ c.loop-i.invariant.2)
+loop-i-preserved c = (omega arith, c.loop-i.invariant.1, four_same c.args.text.now c.args.a c.args.b c.args.len c.loop-i.i (λ i. omega (arith, c.type_inv.text i)) c.requires.0 c.requires.1 (omega arith) (sym c.four_bytes-x.ensures.0 ∙ c.if-x-y.false ∙ c.four_bytes-y.ensures.0) ∙ c.loop-i.invariant.2)
 
 pub overflow_mul-words : goal.overflow_mul-words
 overflow_mul-words c = omega arith
@@ -70,9 +70,9 @@ last_bytes-y-requires c = (omega arith, omega arith)
 pub returns-then-x-y-2 : goal.returns-then-x-y-2
 returns-then-x-y-2 c =
     let e : c.loop-i.i ≡ c.args.len / 4 = omega arith in
-    last_not c.args.text.now (c.args.a + c.args.len / 4 * 4) (c.args.b + c.args.len / 4 * 4) (c.args.len - c.args.len / 4 * 4) (λ i. omega (arith, c.shared_slice_known-1.given i)) (omega arith) (omega arith) (λ q. c.if-x-y-2.true (c.last_bytes-x.ensures.0 ∙ q ∙ sym c.last_bytes-y.ensures.0)) ∙ (rw e at c.loop-i.invariant.2)
+    last_not c.args.text.now (c.args.a + c.args.len / 4 * 4) (c.args.b + c.args.len / 4 * 4) (c.args.len - c.args.len / 4 * 4) (λ i. omega (arith, c.type_inv.text i)) (omega arith) (omega arith) (λ q. c.if-x-y-2.true (c.last_bytes-x.ensures.0 ∙ q ∙ sym c.last_bytes-y.ensures.0)) ∙ (rw e at c.loop-i.invariant.2)
 
 pub returns : goal.returns
 returns c =
     let e : c.loop-i.i ≡ c.args.len / 4 = omega arith in
-    last_same c.args.text.now (c.args.a + c.args.len / 4 * 4) (c.args.b + c.args.len / 4 * 4) (c.args.len - c.args.len / 4 * 4) (λ i. omega (arith, c.shared_slice_known-1.given i)) (omega arith) (omega arith) (sym c.last_bytes-x.ensures.0 ∙ c.if-x-y-2.false ∙ c.last_bytes-y.ensures.0) ∙ (rw e at c.loop-i.invariant.2)
+    last_same c.args.text.now (c.args.a + c.args.len / 4 * 4) (c.args.b + c.args.len / 4 * 4) (c.args.len - c.args.len / 4 * 4) (λ i. omega (arith, c.type_inv.text i)) (omega arith) (omega arith) (sym c.last_bytes-x.ensures.0 ∙ c.if-x-y-2.false ∙ c.last_bytes-y.ensures.0) ∙ (rw e at c.loop-i.invariant.2)

@@ -14,13 +14,13 @@ use Rattle.bench_gates.proofs.Lowering.{one_kept, buffered, inverted, unknown}
 use Rattle.bench_gates.proofs.gates.lower_bench_gate.Goals as goal
 
 pub lower_buffer-c-requires : goal.lower_buffer-c-requires
-lower_buffer-c-requires c = (c.requires.kept.table, c.requires.len_in_bounds.0.0)
+lower_buffer-c-requires c = record { table = c.requires.kept.table; len_in_bounds = c.requires.len_in_bounds.0 }
 
 pub lower_inverter-requires : goal.lower_inverter-requires
-lower_inverter-requires c = (c.requires.kept, c.requires.len_in_bounds.0.0)
+lower_inverter-requires c = record { kept = c.requires.kept; len_in_bounds = c.requires.len_in_bounds.0 }
 
 pub lower_chain-requires : goal.lower_chain-requires
-lower_chain-requires c = (c.requires.kept, (c.requires.len_in_bounds.0, c.requires.len_in_bounds.1))
+lower_chain-requires c = let it = (c.requires.kept, (c.requires.len_in_bounds, c.requires.1.1)) in record { kept = it.0; len_in_bounds = it.1; driven = it.2; first_wires = it.3 }
 
 pub returns-in-Buf : goal.returns-in-Buf
 returns-in-Buf c =
@@ -28,8 +28,7 @@ returns-in-Buf c =
     let es = entries c.args.names.now c.args.counts.names in
     let ws = arguments_from t c.args.from c.args.end in
     let out : Word = record { start = c.args.start; len = c.args.len } in
-    let h = held_of c.args.nodes.now c.args.names.now c.args.counts in
-    (record { table = c.lower_buffer-c.ensures.table_2; nodes = c.requires.kept.nodes }, λ l. buffered (places_in (length c.args.nodes.now) (length c.args.names.now) l) out h (input_wires t es ws) c.lower_buffer-c.result.fault (entries c.lower_buffer-c.new.names c.lower_buffer-c.result.count) (c.lower_buffer-c.ensures.count_after ∙ one_kept t es ws c.args.inputs c.requires.len_in_bounds.1.0 (λ x. add_name (capacity 4 (length c.args.names.now)) out x es) c.args.wires c.requires.len_in_bounds.1.1) ∙ ap (λ (o : Operation). and_then (input_wires t es ws) (λ xs. lower_gate (places_in (length c.args.nodes.now) (length c.args.names.now) l) out o xs h)) (sym c.in-Buf.is))
+    let h = held_of c.args.nodes.now c.args.names.now c.args.counts in record { kept_2 = record { table = c.lower_buffer-c.ensures.table_2; nodes = c.requires.kept.nodes }; by_index = λ l. buffered (places_in (length c.args.nodes.now) (length c.args.names.now) l) out h (input_wires t es ws) c.lower_buffer-c.result.fault (entries c.lower_buffer-c.new.names c.lower_buffer-c.result.count) (c.lower_buffer-c.ensures.count_after ∙ one_kept t es ws c.args.inputs c.requires.driven (λ x. add_name (capacity 4 (length c.args.names.now)) out x es) c.args.wires c.requires.first_wires) ∙ ap (λ (o : Operation). and_then (input_wires t es ws) (λ xs. lower_gate (places_in (length c.args.nodes.now) (length c.args.names.now) l) out o xs h)) (sym c.in-Buf.is) }
 
 pub returns-in-Not : goal.returns-in-Not
 returns-in-Not c =
@@ -37,11 +36,10 @@ returns-in-Not c =
     let es = entries c.args.names.now c.args.counts.names in
     let ws = arguments_from t c.args.from c.args.end in
     let out : Word = record { start = c.args.start; len = c.args.len } in
-    let h = held_of c.args.nodes.now c.args.names.now c.args.counts in
-    (c.lower_inverter.ensures.kept_2, λ l. c.lower_inverter.ensures.by_index l ∙ one_kept t es ws c.args.inputs c.requires.len_in_bounds.1.0 (λ x. add_named (places_in (length c.args.nodes.now) (length c.args.names.now) l) out (inverter out x) h) c.args.wires c.requires.len_in_bounds.1.1 ∙ inverted (places_in (length c.args.nodes.now) (length c.args.names.now) l) out h (input_wires t es ws) ∙ ap (λ (o : Operation). and_then (input_wires t es ws) (λ xs. lower_gate (places_in (length c.args.nodes.now) (length c.args.names.now) l) out o xs h)) (sym c.in-Not.is))
+    let h = held_of c.args.nodes.now c.args.names.now c.args.counts in record { kept_2 = c.lower_inverter.ensures.kept_2; by_index = λ l. c.lower_inverter.ensures.by_index l ∙ one_kept t es ws c.args.inputs c.requires.driven (λ x. add_named (places_in (length c.args.nodes.now) (length c.args.names.now) l) out (inverter out x) h) c.args.wires c.requires.first_wires ∙ inverted (places_in (length c.args.nodes.now) (length c.args.names.now) l) out h (input_wires t es ws) ∙ ap (λ (o : Operation). and_then (input_wires t es ws) (λ xs. lower_gate (places_in (length c.args.nodes.now) (length c.args.names.now) l) out o xs h)) (sym c.in-Not.is) }
 
 pub returns-in-Chain : goal.returns-in-Chain
-returns-in-Chain c = (c.lower_chain.ensures.kept_2, λ l. c.lower_chain.ensures.by_index l ∙ ap (λ (o : Operation). and_then (input_wires c.args.text.now (entries c.args.names.now c.args.counts.names) (arguments_from c.args.text.now c.args.from c.args.end)) (λ xs. lower_gate (places_in (length c.args.nodes.now) (length c.args.names.now) l) (record { start = c.args.start; len = c.args.len }) o xs (held_of c.args.nodes.now c.args.names.now c.args.counts))) (sym c.in-Chain.is))
+returns-in-Chain c = record { kept_2 = c.lower_chain.ensures.kept_2; by_index = λ l. c.lower_chain.ensures.by_index l ∙ ap (λ (o : Operation). and_then (input_wires c.args.text.now (entries c.args.names.now c.args.counts.names) (arguments_from c.args.text.now c.args.from c.args.end)) (λ xs. lower_gate (places_in (length c.args.nodes.now) (length c.args.names.now) l) (record { start = c.args.start; len = c.args.len }) o xs (held_of c.args.nodes.now c.args.names.now c.args.counts))) (sym c.in-Chain.is) }
 
 pub returns-in-Other : goal.returns-in-Other
-returns-in-Other c = (c.requires.kept, λ l. unknown (places_in (length c.args.nodes.now) (length c.args.names.now) l) (record { start = c.args.start; len = c.args.len }) (held_of c.args.nodes.now c.args.names.now c.args.counts) c.args.text.now (entries c.args.names.now c.args.counts.names) (arguments_from c.args.text.now c.args.from c.args.end) c.args.inputs c.requires.len_in_bounds.1.0 ∙ ap (λ (o : Operation). and_then (input_wires c.args.text.now (entries c.args.names.now c.args.counts.names) (arguments_from c.args.text.now c.args.from c.args.end)) (λ xs. lower_gate (places_in (length c.args.nodes.now) (length c.args.names.now) l) (record { start = c.args.start; len = c.args.len }) o xs (held_of c.args.nodes.now c.args.names.now c.args.counts))) (sym c.in-Other.is))
+returns-in-Other c = record { kept_2 = c.requires.kept; by_index = λ l. unknown (places_in (length c.args.nodes.now) (length c.args.names.now) l) (record { start = c.args.start; len = c.args.len }) (held_of c.args.nodes.now c.args.names.now c.args.counts) c.args.text.now (entries c.args.names.now c.args.counts.names) (arguments_from c.args.text.now c.args.from c.args.end) c.args.inputs c.requires.driven ∙ ap (λ (o : Operation). and_then (input_wires c.args.text.now (entries c.args.names.now c.args.counts.names) (arguments_from c.args.text.now c.args.from c.args.end)) (λ xs. lower_gate (places_in (length c.args.nodes.now) (length c.args.names.now) l) (record { start = c.args.start; len = c.args.len }) o xs (held_of c.args.nodes.now c.args.names.now c.args.counts))) (sym c.in-Other.is) }

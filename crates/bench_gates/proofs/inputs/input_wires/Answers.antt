@@ -15,7 +15,7 @@ pub next_argument-a-requires : goal.next_argument-a-requires
 next_argument-a-requires c = (c.loop-at-test.true, c.requires.end_in_bounds)
 
 pub find_wire-wire-requires : goal.find_wire-wire-requires
-find_wire-wire-requires c = (c.requires.table, c.next_argument-a.ensures.inside)
+find_wire-wire-requires c = record { table = c.requires.table; len_in_bounds = c.next_argument-a.ensures.inside }
 
 pub returns-in_default : goal.returns-in_default
 returns-in_default c =

@@ -10,26 +10,18 @@ use Rattle.blif.proofs.gates.put_gate.Goals as goal
 
 pub returns-then-p-eq0 : goal.returns-then-p-eq0
 returns-then-p-eq0 c =
-    let k = c.requires.kept in (
-      record { table = c.add_alias.ensures.table_2; nodes = record { room = rw c.add_alias.ensures.nodes_value.0 k.nodes.room; clean = rw c.add_alias.ensures.nodes_value.0 k.nodes.clean } },
-      ap (λ (n : ℕ). outcome c.add_alias.result.fault (record { nodes = nodes_of c.args.nodes.now n; names = entries c.add_alias.new.names c.add_alias.result.counts.names })) c.add_alias.ensures.nodes_value.0
-          ∙ put_constant c.args.p _ _ _ (entries c.add_alias.new.names c.add_alias.result.counts.names) c.add_alias.result.fault c.if-p-eq0.true c.add_alias.ensures.nodes_value.1,
-    )
+    let k = c.requires.kept in record { kept_2 = record { table = c.add_alias.ensures.table_2; nodes = record { room = rw c.add_alias.ensures.nodes_value k.nodes.room; clean = rw c.add_alias.ensures.nodes_value k.nodes.clean } }; counts_after = ap (λ (n : ℕ). outcome c.add_alias.result.fault (record { nodes = nodes_of c.args.nodes.now n; names = entries c.add_alias.new.names c.add_alias.result.counts.names })) c.add_alias.ensures.nodes_value
+          ∙ put_constant c.args.p _ _ _ (entries c.add_alias.new.names c.add_alias.result.counts.names) c.add_alias.result.fault c.if-p-eq0.true c.add_alias.ensures.names_after }
 
 pub returns-then-p-eq2 : goal.returns-then-p-eq2
 returns-then-p-eq2 c =
-    let k = c.requires.kept in (
-      record { table = c.add_alias-then-p-eq2.ensures.table_2; nodes = record { room = rw c.add_alias-then-p-eq2.ensures.nodes_value.0 k.nodes.room; clean = rw c.add_alias-then-p-eq2.ensures.nodes_value.0 k.nodes.clean } },
-      ap (λ (n : ℕ). outcome c.add_alias-then-p-eq2.result.fault (record { nodes = nodes_of c.args.nodes.now n; names = entries c.add_alias-then-p-eq2.new.names c.add_alias-then-p-eq2.result.counts.names })) c.add_alias-then-p-eq2.ensures.nodes_value.0
-          ∙ put_alias c.args.p _ _ _ (entries c.add_alias-then-p-eq2.new.names c.add_alias-then-p-eq2.result.counts.names) c.add_alias-then-p-eq2.result.fault c.if-p-eq1.true c.if-p-eq2.true c.add_alias-then-p-eq2.ensures.nodes_value.1,
-    )
+    let k = c.requires.kept in record { kept_2 = record { table = c.add_alias-then-p-eq2.ensures.table_2; nodes = record { room = rw c.add_alias-then-p-eq2.ensures.nodes_value k.nodes.room; clean = rw c.add_alias-then-p-eq2.ensures.nodes_value k.nodes.clean } }; counts_after = ap (λ (n : ℕ). outcome c.add_alias-then-p-eq2.result.fault (record { nodes = nodes_of c.args.nodes.now n; names = entries c.add_alias-then-p-eq2.new.names c.add_alias-then-p-eq2.result.counts.names })) c.add_alias-then-p-eq2.ensures.nodes_value
+          ∙ put_alias c.args.p _ _ _ (entries c.add_alias-then-p-eq2.new.names c.add_alias-then-p-eq2.result.counts.names) c.add_alias-then-p-eq2.result.fault c.if-p-eq1.true c.if-p-eq2.true c.add_alias-then-p-eq2.ensures.names_after }
 
 pub add_named-requires : goal.add_named-requires
 add_named-requires c =
     let e = wire_small c.args.p.first c.cell_node-node.result.first c.cell_node-node.ensures.first-is in
-    let f = wire_small c.args.p.second c.cell_node-node.result.second c.cell_node-node.ensures.second_is in
-    (c.requires.kept, (c.requires.len_in_bounds.0, (omega (arith, e, c.struct_known-1.given), omega (arith, f, c.struct_known-1.given))))
+    let f = wire_small c.args.p.second c.cell_node-node.result.second c.cell_node-node.ensures.second_is in record { kept = c.requires.kept; len_in_bounds = c.requires.len_in_bounds.0; first_bound = (omega (arith, e, c.struct_known-1.given), omega (arith, f, c.struct_known-1.given)) }
 
 pub returns : goal.returns
-returns c =
-    (c.add_named.ensures.kept_2, c.add_named.ensures.counts_after ∙ put-cell c.args.p c.cell_node-node.result _ _ c.requires.len_in_bounds.1 c.cell_node-node.ensures c.if-p-eq0.false (⊎_elim (λ w i t. w.2.left t) (λ w i t. w.left i) c.if-p-eq1.branch))
+returns c = record { kept_2 = c.add_named.ensures.kept_2; counts_after = c.add_named.ensures.counts_after ∙ put-cell c.args.p c.cell_node-node.result _ _ c.requires.len_in_bounds.1 c.cell_node-node.ensures c.if-p-eq0.false (⊎_elim (λ w i t. w.2.left t) (λ w i t. w.left i) c.if-p-eq1.branch) }

@@ -22,12 +22,10 @@ pub shape_of-names-then-len-eq0 : goal.shape_of-names-then-len-eq0
 shape_of-names-then-len-eq0 c = c.loop-at.invariant.3
 
 pub returns-then-len-eq0 : goal.returns-then-len-eq0
-returns-then-len-eq0 c =
-    (c.loop-at.invariant.4, each_end (add_input false c.args.text.now (places_in (length c.args.nodes.now) (length c.args.names.now) 0)) c.args.text.now c.loop-at.at c.args.end (held_of c.loop-at.nodes c.loop-at.names c.loop-at.held) c.next_name-w.result c.next_name-w.ensures.0 c.if-len-eq0.true ∙ c.loop-at.invariant.5)
+returns-then-len-eq0 c = record { kept_2 = c.loop-at.invariant.4; counts_after = each_end (add_input false c.args.text.now (places_in (length c.args.nodes.now) (length c.args.names.now) 0)) c.args.text.now c.loop-at.at c.args.end (held_of c.loop-at.nodes c.loop-at.names c.loop-at.held) c.next_name-w.result c.next_name-w.ensures.0 c.if-len-eq0.true ∙ c.loop-at.invariant.5 }
 
 pub add_input-step-requires : goal.add_input-step-requires
-add_input-step-requires c =
-    (c.loop-at.invariant.4, omega (arith, c.next_name-w.ensures.1, c.requires.from_le_end))
+add_input-step-requires c = record { kept = c.loop-at.invariant.4; len_in_bounds = omega (arith, c.next_name-w.ensures.1, c.requires.from_le_end) }
 
 pub shape_of-nodes-in-Refused : goal.shape_of-nodes-in-Refused
 shape_of-nodes-in-Refused c = c.add_input-step.auto.1.1.1.1.1.1.0 ∙ c.loop-at.invariant.2
@@ -36,11 +34,10 @@ pub shape_of-names-in-Refused : goal.shape_of-names-in-Refused
 shape_of-names-in-Refused c = c.add_input-step.auto.1.1.1.1.1.1.1.0 ∙ c.loop-at.invariant.3
 
 pub returns-in-Refused : goal.returns-in-Refused
-returns-in-Refused c =
-    (c.add_input-step.ensures.kept_2, each-stop (add_input false c.args.text.now (places_in (length c.args.nodes.now) (length c.args.names.now) 0)) c.args.text.now c.loop-at.at c.args.end (held_of c.loop-at.nodes c.loop-at.names c.loop-at.held) c.next_name-w.result c.next_name-w.ensures.0 c.if-len-eq0.false c.add_input-step.result.fault (held_of c.add_input-step.new.nodes c.add_input-step.new.names c.add_input-step.result.counts) (rw (c.loop-at.invariant.2, c.loop-at.invariant.3) at c.add_input-step.ensures.counts_after) _ c.in-Refused.is ∙ c.loop-at.invariant.5)
+returns-in-Refused c = record { kept_2 = c.add_input-step.ensures.kept_2; counts_after = each-stop (add_input false c.args.text.now (places_in (length c.args.nodes.now) (length c.args.names.now) 0)) c.args.text.now c.loop-at.at c.args.end (held_of c.loop-at.nodes c.loop-at.names c.loop-at.held) c.next_name-w.result c.next_name-w.ensures.0 c.if-len-eq0.false c.add_input-step.result.fault (held_of c.add_input-step.new.nodes c.add_input-step.new.names c.add_input-step.result.counts) (rw (c.loop-at.invariant.2, c.loop-at.invariant.3) at c.add_input-step.ensures.counts_after) _ c.in-Refused.is ∙ c.loop-at.invariant.5 }
 
 pub overflow_add-at : goal.overflow_add-at
-overflow_add-at c = omega (arith, c.next_name-w.ensures.1, c.requires.from_le_end, c.type_inv)
+overflow_add-at c = omega (arith, c.next_name-w.ensures.1, c.requires.from_le_end)
 
 pub loop-at-smaller : goal.loop-at-smaller
 loop-at-smaller c =
@@ -65,5 +62,4 @@ pub shape_of-names : goal.shape_of-names
 shape_of-names c = c.loop-at.invariant.3
 
 pub returns : goal.returns
-returns c =
-    (c.loop-at.invariant.4, each_over (add_input false c.args.text.now (places_in (length c.args.nodes.now) (length c.args.names.now) 0)) c.args.text.now c.loop-at.at c.args.end (held_of c.loop-at.nodes c.loop-at.names c.loop-at.held) c.loop-at-test.false ∙ c.loop-at.invariant.5)
+returns c = record { kept_2 = c.loop-at.invariant.4; counts_after = each_over (add_input false c.args.text.now (places_in (length c.args.nodes.now) (length c.args.names.now) 0)) c.args.text.now c.loop-at.at c.args.end (held_of c.loop-at.nodes c.loop-at.names c.loop-at.held) c.loop-at-test.false ∙ c.loop-at.invariant.5 }

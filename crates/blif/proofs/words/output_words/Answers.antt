@@ -19,21 +19,19 @@ pub shape_of-outputs-then-len-eq0 : goal.shape_of-outputs-then-len-eq0
 shape_of-outputs-then-len-eq0 c = c.loop-at.invariant.2
 
 pub returns-then-len-eq0 : goal.returns-then-len-eq0
-returns-then-len-eq0 c =
-    (c.loop-at.invariant.3, each_end (add_output (capacity 5 (length c.args.outputs.now))) c.args.text.now c.loop-at.at c.args.end (words_of c.loop-at.outputs c.loop-at.n) c.next_name-w.result c.next_name-w.ensures.0 c.if-len-eq0.true ∙ c.loop-at.invariant.4)
+returns-then-len-eq0 c = record { words_kept_2 = c.loop-at.invariant.3; count_after = each_end (add_output (capacity 5 (length c.args.outputs.now))) c.args.text.now c.loop-at.at c.args.end (words_of c.loop-at.outputs c.loop-at.n) c.next_name-w.result c.next_name-w.ensures.0 c.if-len-eq0.true ∙ c.loop-at.invariant.4 }
 
 pub add_output-step-requires : goal.add_output-step-requires
-add_output-step-requires c = (c.loop-at.invariant.3, omega (arith, c.next_name-w.ensures.1, c.requires.from_le_end))
+add_output-step-requires c = record { words_kept = c.loop-at.invariant.3; len_in_bounds = omega (arith, c.next_name-w.ensures.1, c.requires.from_le_end) }
 
 pub shape_of-outputs-in-Refused : goal.shape_of-outputs-in-Refused
 shape_of-outputs-in-Refused c = c.add_output-step.auto.1.1.1.1.0 ∙ c.loop-at.invariant.2
 
 pub returns-in-Refused : goal.returns-in-Refused
-returns-in-Refused c =
-    (c.add_output-step.ensures.words_kept_2, each-stop (add_output (capacity 5 (length c.args.outputs.now))) c.args.text.now c.loop-at.at c.args.end (words_of c.loop-at.outputs c.loop-at.n) c.next_name-w.result c.next_name-w.ensures.0 c.if-len-eq0.false c.add_output-step.result.fault (words_of c.add_output-step.new.outputs c.add_output-step.result.count) (rw c.loop-at.invariant.2 at c.add_output-step.ensures.count_after) _ c.in-Refused.is ∙ c.loop-at.invariant.4)
+returns-in-Refused c = record { words_kept_2 = c.add_output-step.ensures.words_kept_2; count_after = each-stop (add_output (capacity 5 (length c.args.outputs.now))) c.args.text.now c.loop-at.at c.args.end (words_of c.loop-at.outputs c.loop-at.n) c.next_name-w.result c.next_name-w.ensures.0 c.if-len-eq0.false c.add_output-step.result.fault (words_of c.add_output-step.new.outputs c.add_output-step.result.count) (rw c.loop-at.invariant.2 at c.add_output-step.ensures.count_after) _ c.in-Refused.is ∙ c.loop-at.invariant.4 }
 
 pub overflow_add-at : goal.overflow_add-at
-overflow_add-at c = omega (arith, c.next_name-w.ensures.1, c.requires.from_le_end, c.type_inv)
+overflow_add-at c = omega (arith, c.next_name-w.ensures.1, c.requires.from_le_end)
 
 pub loop-at-smaller : goal.loop-at-smaller
 loop-at-smaller c =
@@ -54,5 +52,4 @@ pub shape_of-outputs : goal.shape_of-outputs
 shape_of-outputs c = c.loop-at.invariant.2
 
 pub returns : goal.returns
-returns c =
-    (c.loop-at.invariant.3, each_over (add_output (capacity 5 (length c.args.outputs.now))) c.args.text.now c.loop-at.at c.args.end (words_of c.loop-at.outputs c.loop-at.n) c.loop-at-test.false ∙ c.loop-at.invariant.4)
+returns c = record { words_kept_2 = c.loop-at.invariant.3; count_after = each_over (add_output (capacity 5 (length c.args.outputs.now))) c.args.text.now c.loop-at.at c.args.end (words_of c.loop-at.outputs c.loop-at.n) c.loop-at-test.false ∙ c.loop-at.invariant.4 }

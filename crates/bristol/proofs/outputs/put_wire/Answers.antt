@@ -11,7 +11,7 @@ use Rattle.bristol_rows.proofs.RowLaws.{slot_fits}
 use Rattle.bristol.proofs.outputs.put_wire.Goals as goal
 
 pub put_output-requires : goal.put_output-requires
-put_output-requires c = (c.requires, omega (arith, slot_fits c.args.slot c.slot_wire-wire.result c.slot_wire-wire.ensures (omega arith)))
+put_output-requires c = record { j_in_bounds = c.requires; wire_bound = omega (arith, slot_fits c.args.slot c.slot_wire-wire.result c.slot_wire-wire.ensures (omega arith)) }
 
 pub returns : goal.returns
 returns c os p h =

@@ -1,5 +1,6 @@
 use Prim.Native.Nat.{ℕ, ◌-◌, zero-le}
 use mathlib.Core.Path.{refl, sym, ap, ◌∙◌, subst}
+use mathlib.Core.List.{[]}
 use native.Mathlib.Omega.{arith}
 use lib.ListN.{drop}
 use Rattle.bristol.specs.Contracts.{OutputsStand}

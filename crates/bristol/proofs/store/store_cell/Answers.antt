@@ -14,8 +14,7 @@ returns-then-wires-place-ne0 c ns p h =
 
 pub put_node-requires : goal.put_node-requires
 unfolding capacity
-put_node-requires c =
-    (omega (arith, c.records_in-room.ensures, c.if-room-count.false), c.requires.first_bound)
+put_node-requires c = record { i_in_bounds = omega (arith, c.records_in-room.ensures, c.if-room-count.false); first_bound = c.requires.first_bound }
 
 pub overflow_add-wires : goal.overflow_add-wires
 unfolding capacity

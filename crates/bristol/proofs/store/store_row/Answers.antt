@@ -10,8 +10,7 @@ store_alias-requires c = subst (RowFits (length c.args.wires.now)) c.in-Alias.is
 
 pub store_cell-requires : goal.store_cell-requires
 store_cell-requires c =
-    let f = subst (RowFits (length c.args.wires.now)) c.in-Cell.is c.requires in
-    (f.0, (f.1, f.2))
+    let f = subst (RowFits (length c.args.wires.now)) c.in-Cell.is c.requires in record { out_in_bounds = f.0; first_bound = (f.1, f.2) }
 
 pub returns-in-Refused : goal.returns-in-Refused
 returns-in-Refused c ns p h =

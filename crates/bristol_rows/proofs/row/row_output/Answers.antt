@@ -23,7 +23,7 @@ returns-then-slots-2 c =
     output_undriven (stretch c.args.text.now c.args.w.start c.args.w.len) (stretch c.args.text.now c.args.op.start c.args.op.len) c.args.inputs c.args.slots c.args.wires c.if-slots.false c.parse_usize-number.result c.parse_usize-number.ensures c.in-Value.n c.in-Value.is (omega arith) c.if-slots-2.true
 
 pub row_gate-requires : goal.row_gate-requires
-row_gate-requires c = (c.requires.1, omega arith)
+row_gate-requires c = record { len_in_bounds = c.requires.1; out_lt_wires = omega arith }
 
 pub returns : goal.returns
 returns c =

@@ -31,7 +31,7 @@ set_row-t-requires c =
     (omega (arith, i.0, c.find_byte-end.ensures.1, c.requires), c.requires.2, i.1)
 
 pub overflow_add-at : goal.overflow_add-at
-overflow_add-at c = omega (arith, c.find_byte-end.ensures.1, c.requires, c.type_inv)
+overflow_add-at c = omega (arith, c.find_byte-end.ensures.1, c.requires)
 
 pub loop-at-smaller : goal.loop-at-smaller
 loop-at-smaller c = omega (arith, c.find_byte-end.ensures.0, c.loop-at-test.true)

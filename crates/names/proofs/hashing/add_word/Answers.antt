@@ -4,4 +4,4 @@ use Rattle.names.proofs.hashing.add_word.Goals as goal
 
 pub returns : goal.returns
 unfolding mix_in
-returns c = (c.add_bytes-sum.ensures, (refl, omega arith))
+returns c = record { sum_value = c.add_bytes-sum.ensures; mix_value = (refl, omega arith) }

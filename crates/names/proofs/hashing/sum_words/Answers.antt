@@ -30,11 +30,10 @@ loop-i-preserved c = (
   omega arith,
   c.add_word-sums.ensures.sum_value.1,
   c.add_word-sums.ensures.mix_value.1,
-  sum_step c.args.text.now c.args.start c.args.len c.loop-i.i _ _ (λ i. omega (arith, c.shared_slice_known-1.given i)) c.loop-i-test.true c.requires (c.add_word-sums.ensures.sum_value.0 ∙ ap (sum_in c.loop-i.sums.sum) c.four_bytes-word.ensures.0) ∙ c.loop-i.invariant.3,
+  sum_step c.args.text.now c.args.start c.args.len c.loop-i.i _ _ (λ i. omega (arith, c.type_inv.text i)) c.loop-i-test.true c.requires (c.add_word-sums.ensures.sum_value.0 ∙ ap (sum_in c.loop-i.sums.sum) c.four_bytes-word.ensures.0) ∙ c.loop-i.invariant.3,
   mix_step c.args.text.now c.args.start c.args.len c.loop-i.i _ _ c.loop-i-test.true c.requires (c.add_word-sums.ensures.mix_value.0 ∙ ap (mix_in c.loop-i.sums.mix) c.four_bytes-word.ensures.0) ∙ c.loop-i.invariant.4,
 )
 
 pub returns : goal.returns
 returns c =
-    let e : c.loop-i.i ≡ c.args.len / 4 = omega arith in
-    ((rw e at c.loop-i.invariant.3, c.loop-i.invariant.1), (rw e at c.loop-i.invariant.4, c.loop-i.invariant.2))
+    let e : c.loop-i.i ≡ c.args.len / 4 = omega arith in record { len_value = (rw e at c.loop-i.invariant.3, c.loop-i.invariant.1); len_value_2 = (rw e at c.loop-i.invariant.4, c.loop-i.invariant.2) }

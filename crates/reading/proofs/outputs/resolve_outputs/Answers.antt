@@ -10,7 +10,7 @@ pub loop-j-init : goal.loop-j-init
 loop-j-init c = (omega arith, refl, mid_start c.args.constants c.args.text.now (entries c.args.names.now c.args.count) c.args.outputs.now c.args.n c.requires.words_kept.clean)
 
 pub resolve_at-found-requires : goal.resolve_at-found-requires
-resolve_at-found-requires c = (c.requires.table, (omega (arith, c.loop-j.invariant.1, c.requires.words_kept.room, c.loop-j-test.true), mid_inside c.args.constants c.args.text.now (entries c.args.names.now c.args.count) c.args.outputs.now c.args.n c.loop-j.outputs c.loop-j.j c.loop-j-test.true c.loop-j.invariant.2 c.requires.words_kept.inside))
+resolve_at-found-requires c = record { table = c.requires.table; j_in_bounds = (omega (arith, c.loop-j.invariant.1, c.requires.words_kept.room, c.loop-j-test.true), mid_inside c.args.constants c.args.text.now (entries c.args.names.now c.args.count) c.args.outputs.now c.args.n c.loop-j.outputs c.loop-j.j c.loop-j-test.true c.loop-j.invariant.2 c.requires.words_kept.inside) }
 
 pub shape_of-outputs-in-Nothing : goal.shape_of-outputs-in-Nothing
 shape_of-outputs-in-Nothing c = c.resolve_at-found.auto.1.1.1.1.1.0 ∙ c.loop-j.invariant.1

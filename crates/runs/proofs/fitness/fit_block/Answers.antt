@@ -1,4 +1,5 @@
 use mathlib.Core.Path.{ap, ◌∙◌}
+use mathlib.Core.List.{[]}
 use Prim.Native.Nat.{ℕ, ◌*◌}
 use lib.ListN.{length}
 use Rattle.circuit.specs.Records.{nodes_of}

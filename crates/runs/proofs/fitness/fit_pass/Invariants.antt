@@ -1,4 +1,5 @@
 use mathlib.Core.Path.{◌≡◌}
+use mathlib.Core.List.{[]}
 use Prim.Native.Nat.{◌-◌, ◌≤◌}
 use lib.ListN.{length, take, drop}
 use Rattle.circuit.specs.Records.{nodes_of}

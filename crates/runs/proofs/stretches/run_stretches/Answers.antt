@@ -52,13 +52,14 @@ pub loop-from-smaller : goal.loop-from-smaller
 loop-from-smaller c = omega (arith, c.stretch_end-end.ensures.2 c.loop-from-test.true, c.stretch_end-end.ensures.1)
 
 pub loop-from-preserved : goal.loop-from-preserved
-loop-from-preserved c = (
-  c.run_stretch-how-in-loop-from.ensures.0 (omega (arith, c.if-how-eq0-2.false)) c.stretch_end-from.result c.run_stretch-how.new.values c.loop-from.invariant.1 c.loop-from.invariant.0,
-  omega (arith, c.loop-from.invariant.1, c.stretch_end-end.ensures.0),
-  c.stretch_end-end.ensures.1,
-  c.run_stretch-how-in-loop-from.auto.1.1.1.1.1.1.1.1.0 ∙ c.loop-from.invariant.3,
-  c.look_ahead-lead.ensures,
-)
+loop-from-preserved c =
+    (
+      c.run_stretch-how-in-loop-from.ensures.0 (omega (arith, c.if-how-eq0-2.false)) c.stretch_end-from.result c.run_stretch-how.new.values c.loop-from.invariant.1 c.loop-from.invariant.0,
+      omega (arith, c.loop-from.invariant.1, c.stretch_end-end.ensures.0),
+      c.stretch_end-end.ensures.1,
+      c.run_stretch-how-in-loop-from.auto.1.1.1.1.1.1.1.1.0 ∙ c.loop-from.invariant.3,
+      c.look_ahead-lead.ensures,
+    )
 
 pub shape_of-values : goal.shape_of-values
 shape_of-values c = c.loop-from.invariant.3 ∙ c.run_stretch-how.auto.1.1.1.1.1.1.1.1.0

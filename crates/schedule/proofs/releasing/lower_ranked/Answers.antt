@@ -17,7 +17,7 @@ pub refresh-requires : goal.refresh-requires
 refresh-requires c = (lowered_stale c.args.count c.args.keys.now c.args.area.now c.args.at c.requires.0 c.args.node c.lower-left.new.area c.lower-left.ensures.2 c.lower-left.ensures.0, omega (arith, c.requires.1), c.requires.4)
 
 pub overflow_add-result : goal.overflow_add-result
-overflow_add-result c = omega (arith, inside_few c.args.count c.args.keys.now c.args.area.now c.args.at c.requires.0, counted_few _ _ _ (tracked_counted c.args.count c.args.keys.now c.args.area.now c.args.at c.requires.0), c.requires.0.ranked.size, c.type_inv)
+overflow_add-result c = omega (arith, inside_few c.args.count c.args.keys.now c.args.area.now c.args.at c.requires.0, counted_few _ _ _ (tracked_counted c.args.count c.args.keys.now c.args.area.now c.args.at c.requires.0), c.requires.0.ranked.size)
 
 pub returns : goal.returns
 returns c = (noted_fronted _ _ _ c.refresh.ensures.1 _ _ _ _ c.requires.1 c.lower-left.ensures.0, lowered_inside c.args.count c.args.keys.now c.args.area.now c.args.at c.requires.0 c.args.node c.lower-left.new.area c.lower-left.ensures.2 c.lower-left.ensures.0 (omega (arith, c.if-at-node.false)) c.if-area-node-ne0.false c.requires.2 _ c.lower-left.ensures.1 _ c.refresh.ensures.1 c.refresh.ensures.0 _ refl refl refl, refl)

@@ -9,19 +9,19 @@ use Rattle.schedule.proofs.Steps.{onward_over, onward_more, onward_fronted, resu
 use Rattle.schedule.proofs.taking.take_ranked.Goals as goal
 
 pub overflow_mul-root : goal.overflow_mul-root
-overflow_mul-root c = omega (arith, c.requires.5.ranked.big, c.requires.5.ranked.size, c.type_inv)
+overflow_mul-root c = omega (arith, c.requires.5.ranked.big, c.requires.5.ranked.size)
 
 pub overflow_add-root : goal.overflow_add-root
-overflow_add-root c = omega (arith, c.requires.5.ranked.big, c.requires.5.ranked.size, c.type_inv)
+overflow_add-root c = omega (arith, c.requires.5.ranked.big, c.requires.5.ranked.size)
 
 pub overflow_mul-root-2 : goal.overflow_mul-root-2
-overflow_mul-root-2 c = omega (arith, c.requires.5.ranked.big, c.requires.5.ranked.size, c.type_inv)
+overflow_mul-root-2 c = omega (arith, c.requires.5.ranked.big, c.requires.5.ranked.size)
 
 pub overflow_add-root-2 : goal.overflow_add-root-2
-overflow_add-root-2 c = omega (arith, c.requires.5.ranked.big, c.requires.5.ranked.size, c.type_inv)
+overflow_add-root-2 c = omega (arith, c.requires.5.ranked.big, c.requires.5.ranked.size)
 
 pub overflow_add-root-3 : goal.overflow_add-root-3
-overflow_add-root-3 c = omega (arith, c.requires.5.ranked.big, c.requires.5.ranked.size, c.type_inv)
+overflow_add-root-3 c = omega (arith, c.requires.5.ranked.big, c.requires.5.ranked.size)
 
 pub loop-at-init : goal.loop-at-init
 loop-at-init c = ((λ _ _ t. t), c.requires.4, refl, refl, omega arith, refl, c.requires.5, c.requires.6, refl)

@@ -4,7 +4,7 @@ use Rattle.schedule.proofs.Leaf.{scanned_start, scanned_over, bit-room, scanned_
 use Rattle.schedule.proofs.tree.leaf.Goals as goal
 
 pub overflow_mul-i : goal.overflow_mul-i
-overflow_mul-i c = record { fits = omega (arith, c.requires.1, c.type_inv) }
+overflow_mul-i c = record { fits = omega (arith, c.requires.1) }
 
 pub offset_bounds-ready-w : goal.offset_bounds-ready-w
 offset_bounds-ready-w c = omega (arith, c.requires.0)
@@ -13,13 +13,13 @@ pub bounds-ready-w : goal.bounds-ready-w
 bounds-ready-w c = c.requires.0
 
 pub loop-rest-init : goal.loop-rest-init
-loop-rest-init c = scanned_start _ _ _ _ (omega (arith, c.shared_slice_known-1.given c.args.w))
+loop-rest-init c = scanned_start _ _ _ _ (omega (arith, c.type_inv.ready c.args.w))
 
 pub overflow_cast-t : goal.overflow_cast-t
 overflow_cast-t c = record { fits = omega (arith, bit-room _ _ _ _ _ _ _ c.loop-rest.invariant c.loop-rest-test.true, c.loop-rest.invariant.low) }
 
 pub overflow_add-node : goal.overflow_add-node
-overflow_add-node c = record { fits = omega (arith, bit-room _ _ _ _ _ _ _ c.loop-rest.invariant c.loop-rest-test.true, c.requires.1, c.type_inv) }
+overflow_add-node c = record { fits = omega (arith, bit-room _ _ _ _ _ _ _ c.loop-rest.invariant c.loop-rest-test.true, c.requires.1) }
 
 pub overflow_add-node-in-loop-rest : goal.overflow_add-node-in-loop-rest
 overflow_add-node-in-loop-rest c = omega arith

@@ -7,7 +7,7 @@ pub loop-done-init : goal.loop-done-init
 loop-done-init c = (leaves_none _ _ _ _, omega arith)
 
 pub overflow_add-count : goal.overflow_add-count
-overflow_add-count c = omega (arith, c.requires.2, c.type_inv)
+overflow_add-count c = omega (arith, c.requires.2)
 
 pub put_leaf-requires : goal.put_leaf-requires
 put_leaf-requires c = (c.requires.0, c.requires.1, omega (arith, c.requires.2, c.loop-done.invariant.0.fronted.size), c.requires.3, c.loop-done-test.true)

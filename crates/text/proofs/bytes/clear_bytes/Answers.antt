@@ -12,7 +12,7 @@ pub bounds-area-i : goal.bounds-area-i
 bounds-area-i c = omega arith
 
 pub overflow_add-i : goal.overflow_add-i
-overflow_add-i c = omega (arith, c.type_inv)
+overflow_add-i c = omega (arith)
 
 pub loop-i-smaller : goal.loop-i-smaller
 loop-i-smaller c = simp length-set (omega arith)

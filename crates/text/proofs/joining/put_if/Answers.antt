@@ -8,7 +8,7 @@ bounds-joined-out c =
 
 pub returns-then-wanted : goal.returns-then-wanted
 returns-then-wanted c =
-    put_one c.args.joined.now c.args.out c.args.b c.args.wanted c.if-wanted.true (slice-write-joined c)
+    put_one c.args.joined.now c.args.out c.args.b c.args.wanted c.if-wanted.true (bounds-joined-out c)
 
 pub returns : goal.returns
 returns c =

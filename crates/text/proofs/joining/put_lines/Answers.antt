@@ -17,10 +17,7 @@ next_comment-comment-requires c = (omega (arith, c.loop-at-test.true), c.loop-at
 
 pub put_raw-p-requires : goal.put_raw-p-requires
 put_raw-p-requires c =
-    let n : length c.args.text.now + 1 ≤ length c.loop-at.joined = omega (arith, c.requires, c.loop-at.invariant.1) in (
-      (omega (arith, c.find_far_byte-end.ensures.0), c.find_far_byte-end.ensures.1, c.next_comment-comment.ensures),
-      turn_room c.args.text.now c.loop-at.joined c.loop-at.at c.loop-at.out c.loop-at.gathered c.loop-at.invariant.2 c.loop-at.invariant.3 c.find_far_byte-end.result (length c.loop-at.joined) (omega arith) n c.find_far_byte-end.ensures.0,
-    )
+    let n : length c.args.text.now + 1 ≤ length c.loop-at.joined = omega (arith, c.requires, c.loop-at.invariant.1) in record { from_le_end = (omega (arith, c.find_far_byte-end.ensures.0), c.find_far_byte-end.ensures.1, c.next_comment-comment.ensures); from_in_bounds = turn_room c.args.text.now c.loop-at.joined c.loop-at.at c.loop-at.out c.loop-at.gathered c.loop-at.invariant.2 c.loop-at.invariant.3 c.find_far_byte-end.result (length c.loop-at.joined) (omega arith) n c.find_far_byte-end.ensures.0 }
 
 pub overflow_add-at : goal.overflow_add-at
 overflow_add-at c = omega arith
@@ -49,7 +46,8 @@ pub shape_of-joined : goal.shape_of-joined
 shape_of-joined c = c.put_if.auto.0 ∙ c.loop-at.invariant.1
 
 pub returns : goal.returns
-returns c = (
-  end_after c.args.text.now c.loop-at.joined c.loop-at.at c.loop-at.out c.loop-at.gathered c.loop-at.invariant.2 c.loop-at.invariant.3 c.loop-at-test.false c.put_if.new.joined c.put_if.result c.put_if.ensures,
-  omega (arith, c.put_if.ensures.count, end_room c.args.text.now c.loop-at.joined c.loop-at.at c.loop-at.out c.loop-at.gathered c.loop-at.invariant.2 c.loop-at.invariant.3 c.loop-at-test.false),
-)
+returns c =
+    (
+      end_after c.args.text.now c.loop-at.joined c.loop-at.at c.loop-at.out c.loop-at.gathered c.loop-at.invariant.2 c.loop-at.invariant.3 c.loop-at-test.false c.put_if.new.joined c.put_if.result c.put_if.ensures,
+      omega (arith, c.put_if.ensures.count, end_room c.args.text.now c.loop-at.joined c.loop-at.at c.loop-at.out c.loop-at.gathered c.loop-at.invariant.2 c.loop-at.invariant.3 c.loop-at-test.false),
+    )

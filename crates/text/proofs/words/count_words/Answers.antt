@@ -1,5 +1,6 @@
 use Prim.Native.Nat.{◌-◌, zero-le}
 use mathlib.Core.Path.{◌≡◌, ap}
+use mathlib.Core.List.{[]}
 use native.Mathlib.Omega.{arith}
 use lib.ListN.{length}
 use Rattle.laws.specs.Stretches.{stretch}
