@@ -10,13 +10,19 @@ use Rattle.blif.proofs.gates.put_gate.Goals as goal
 
 pub returns-then-p-eq0 : goal.returns-then-p-eq0
 returns-then-p-eq0 c =
-    let k = c.requires.kept in record { kept_2 = record { table = c.add_alias.ensures.table_2; nodes = record { room = rw c.add_alias.ensures.nodes_value k.nodes.room; clean = rw c.add_alias.ensures.nodes_value k.nodes.clean } }; counts_after = ap (λ (n : ℕ). outcome c.add_alias.result.fault (record { nodes = nodes_of c.args.nodes.now n; names = entries c.add_alias.new.names c.add_alias.result.counts.names })) c.add_alias.ensures.nodes_value
-          ∙ put_constant c.args.p _ _ _ (entries c.add_alias.new.names c.add_alias.result.counts.names) c.add_alias.result.fault c.if-p-eq0.true c.add_alias.ensures.names_after }
+    let k = c.requires.kept in record {
+      kept_2 = record { table = c.add_alias.ensures.table_2; nodes = record { room = rw c.add_alias.ensures.nodes_value k.nodes.room; clean = rw c.add_alias.ensures.nodes_value k.nodes.clean } };
+      counts_after = ap (λ (n : ℕ). outcome c.add_alias.result.fault (record { nodes = nodes_of c.args.nodes.now n; names = entries c.add_alias.new.names c.add_alias.result.counts.names })) c.add_alias.ensures.nodes_value
+          ∙ put_constant c.args.p _ _ _ (entries c.add_alias.new.names c.add_alias.result.counts.names) c.add_alias.result.fault c.if-p-eq0.true c.add_alias.ensures.names_after;
+    }
 
 pub returns-then-p-eq2 : goal.returns-then-p-eq2
 returns-then-p-eq2 c =
-    let k = c.requires.kept in record { kept_2 = record { table = c.add_alias-then-p-eq2.ensures.table_2; nodes = record { room = rw c.add_alias-then-p-eq2.ensures.nodes_value k.nodes.room; clean = rw c.add_alias-then-p-eq2.ensures.nodes_value k.nodes.clean } }; counts_after = ap (λ (n : ℕ). outcome c.add_alias-then-p-eq2.result.fault (record { nodes = nodes_of c.args.nodes.now n; names = entries c.add_alias-then-p-eq2.new.names c.add_alias-then-p-eq2.result.counts.names })) c.add_alias-then-p-eq2.ensures.nodes_value
-          ∙ put_alias c.args.p _ _ _ (entries c.add_alias-then-p-eq2.new.names c.add_alias-then-p-eq2.result.counts.names) c.add_alias-then-p-eq2.result.fault c.if-p-eq1.true c.if-p-eq2.true c.add_alias-then-p-eq2.ensures.names_after }
+    let k = c.requires.kept in record {
+      kept_2 = record { table = c.add_alias-then-p-eq2.ensures.table_2; nodes = record { room = rw c.add_alias-then-p-eq2.ensures.nodes_value k.nodes.room; clean = rw c.add_alias-then-p-eq2.ensures.nodes_value k.nodes.clean } };
+      counts_after = ap (λ (n : ℕ). outcome c.add_alias-then-p-eq2.result.fault (record { nodes = nodes_of c.args.nodes.now n; names = entries c.add_alias-then-p-eq2.new.names c.add_alias-then-p-eq2.result.counts.names })) c.add_alias-then-p-eq2.ensures.nodes_value
+          ∙ put_alias c.args.p _ _ _ (entries c.add_alias-then-p-eq2.new.names c.add_alias-then-p-eq2.result.counts.names) c.add_alias-then-p-eq2.result.fault c.if-p-eq1.true c.if-p-eq2.true c.add_alias-then-p-eq2.ensures.names_after;
+    }
 
 pub add_named-requires : goal.add_named-requires
 add_named-requires c =

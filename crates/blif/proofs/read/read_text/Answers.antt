@@ -18,4 +18,4 @@ read_joined-ended-requires c =
 pub returns : goal.returns
 returns c = λ text j.
     let z = c.conclude.ensures text c.args.used (blif_lines (joined_text text) (places_in (length c.args.nodes.now) (length c.args.names.now) (length c.args.outputs.now))) j (rw j.front at c.read_joined-ended.ensures) in
-    rw (c.read_joined-ended.auto.1.0, c.read_joined-ended.auto.1.1.0, c.read_joined-ended.auto.1.1.1.0) at z
+    rw (c.read_joined-ended.auto.nodes, c.read_joined-ended.auto.names, c.read_joined-ended.auto.outputs) at z

@@ -25,7 +25,7 @@ pub add_output-step-requires : goal.add_output-step-requires
 add_output-step-requires c = record { words_kept = c.loop-at.invariant.3; len_in_bounds = omega (arith, c.next_name-w.ensures.1, c.requires.from_le_end) }
 
 pub shape_of-outputs-in-Refused : goal.shape_of-outputs-in-Refused
-shape_of-outputs-in-Refused c = c.add_output-step.auto.1.1.1.1.0 ∙ c.loop-at.invariant.2
+shape_of-outputs-in-Refused c = c.add_output-step.auto.outputs ∙ c.loop-at.invariant.2
 
 pub returns-in-Refused : goal.returns-in-Refused
 returns-in-Refused c = record { words_kept_2 = c.add_output-step.ensures.words_kept_2; count_after = each-stop (add_output (capacity 5 (length c.args.outputs.now))) c.args.text.now c.loop-at.at c.args.end (words_of c.loop-at.outputs c.loop-at.n) c.next_name-w.result c.next_name-w.ensures.0 c.if-len-eq0.false c.add_output-step.result.fault (words_of c.add_output-step.new.outputs c.add_output-step.result.count) (rw c.loop-at.invariant.2 at c.add_output-step.ensures.count_after) _ c.in-Refused.is ∙ c.loop-at.invariant.4 }
@@ -43,7 +43,7 @@ loop-at-preserved c =
     let f : c.loop-at.at ≤ c.next_name-w.result.start = word_after c.args.text.now c.loop-at.at c.args.end c.next_name-w.result c.next_name-w.ensures.0 in (
       omega (arith, c.loop-at.invariant.0),
       c.next_name-w.ensures.1,
-      c.add_output-step.auto.1.1.1.1.0 ∙ c.loop-at.invariant.2,
+      c.add_output-step.auto.outputs ∙ c.loop-at.invariant.2,
       c.add_output-step.ensures.words_kept_2,
       each_on (add_output (capacity 5 (length c.args.outputs.now))) c.args.text.now c.loop-at.at c.args.end (words_of c.loop-at.outputs c.loop-at.n) c.next_name-w.result c.next_name-w.ensures.0 c.if-len-eq0.false c.add_output-step.result.fault (words_of c.add_output-step.new.outputs c.add_output-step.result.count) (rw c.loop-at.invariant.2 at c.add_output-step.ensures.count_after) c.in_default.is ∙ c.loop-at.invariant.4,
     )

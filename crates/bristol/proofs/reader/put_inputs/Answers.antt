@@ -13,13 +13,12 @@ pub loop-k-init : goal.loop-k-init
 loop-k-init c = (zero-le, c.requires.1, refl)
 
 pub loop-k-preserved : goal.loop-k-preserved
-loop-k-preserved c =
-    (
-      search rules,
-      subst (HoldsNodes c.put_node.new.nodes) (sym (up_next input_node c.loop-k.k))
-          (hold_node c.loop-k.nodes c.put_node.new.nodes (up_from input_node 0 c.loop-k.k) (input_node c.loop-k.k) c.loop-k.k (length_up input_node 0 c.loop-k.k) c.put_node.ensures c.put_node.auto.0 c.loop-k.invariant.1),
-      search rules,
-    )
+loop-k-preserved c = (
+  search rules,
+  subst (HoldsNodes c.put_node.new.nodes) (sym (up_next input_node c.loop-k.k))
+      (hold_node c.loop-k.nodes c.put_node.new.nodes (up_from input_node 0 c.loop-k.k) (input_node c.loop-k.k) c.loop-k.k (length_up input_node 0 c.loop-k.k) c.put_node.ensures c.put_node.auto.nodes c.loop-k.invariant.1),
+  search rules,
+)
 
 pub returns : goal.returns
 returns c =

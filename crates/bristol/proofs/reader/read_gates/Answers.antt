@@ -28,6 +28,6 @@ pub returns : goal.returns
 returns c =
     let ls : List (List ℕ) = kept_lines (drop c.args.rest c.args.text.now) in
     let ns : List BoolNode = up_from input_node 0 c.args.inputs in
-    rows_told (length ls) c.read_rows.new.nodes c.read_rows.new.wires (length c.put_inputs.new.nodes) (length c.args.nodes.now) c.put_inputs.auto.0 ls
+    rows_told (length ls) c.read_rows.new.nodes c.read_rows.new.wires (length c.put_inputs.new.nodes) (length c.args.nodes.now) c.put_inputs.auto.nodes ls
     (record { nodes = ns; wires = c.drive_inputs.new.wires }) (record { nodes = ns; wires = up_from input_slot 0 c.args.inputs ++ drop c.args.inputs c.args.wires.now })
     (ap (λ (z : List ℕ). record { nodes = ns; wires = z }) c.drive_inputs.ensures) c.read_rows.result refl (c.read_rows.ensures ns (length_up input_node 0 c.args.inputs) c.put_inputs.ensures)

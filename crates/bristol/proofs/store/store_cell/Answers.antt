@@ -24,4 +24,4 @@ overflow_add-wires c =
 pub returns : goal.returns
 returns c ns p h =
     cell_once (capacity 9 (length c.args.nodes.now)) c.args.out c.args.cell ns c.args.wires.now c.args.next.0 p c.put_node.new.nodes (omega (arith, c.records_in-room.ensures)) c.if-wires-place-ne0.false
-    (hold_node c.args.nodes.now c.put_node.new.nodes ns c.args.cell c.args.next.0 p c.put_node.ensures c.put_node.auto.0 h)
+    (hold_node c.args.nodes.now c.put_node.new.nodes ns c.args.cell c.args.next.0 p c.put_node.ensures c.put_node.auto.nodes h)

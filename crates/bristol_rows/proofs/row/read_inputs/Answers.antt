@@ -21,13 +21,12 @@ pub loop-i-smaller : goal.loop-i-smaller
 loop-i-smaller c = omega arith
 
 pub loop-i-preserved : goal.loop-i-preserved
-loop-i-preserved c =
-    (
-      omega arith,
-      omega (arith, c.loop-i.invariant.1, c.next_number-x.ensures.after),
-      c.next_number-x.ensures.within,
-      got_more c.args.text.now c.args.from c.args.end c.args.n c.args.wires.now c.loop-i.i c.loop-i.at c.loop-i.slots c.loop-i.invariant.3 c.loop-i-test.true c.next_number-x.result (c.next_number-x.ensures.some c.if-x-eq0.false) c.add_input-slots.result c.add_input-slots.ensures,
-    )
+loop-i-preserved c = (
+  omega arith,
+  omega (arith, c.loop-i.invariant.1, c.next_number-x.ensures.after),
+  c.next_number-x.ensures.within,
+  got_more c.args.text.now c.args.from c.args.end c.args.n c.args.wires.now c.loop-i.i c.loop-i.at c.loop-i.slots c.loop-i.invariant.3 c.loop-i-test.true c.next_number-x.result (c.next_number-x.ensures.some c.if-x-eq0.false) c.add_input-slots.result c.add_input-slots.ensures,
+)
 
 pub returns : goal.returns
 returns c =

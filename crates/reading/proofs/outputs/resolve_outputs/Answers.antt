@@ -13,7 +13,7 @@ pub resolve_at-found-requires : goal.resolve_at-found-requires
 resolve_at-found-requires c = record { table = c.requires.table; j_in_bounds = (omega (arith, c.loop-j.invariant.1, c.requires.words_kept.room, c.loop-j-test.true), mid_inside c.args.constants c.args.text.now (entries c.args.names.now c.args.count) c.args.outputs.now c.args.n c.loop-j.outputs c.loop-j.j c.loop-j-test.true c.loop-j.invariant.2 c.requires.words_kept.inside) }
 
 pub shape_of-outputs-in-Nothing : goal.shape_of-outputs-in-Nothing
-shape_of-outputs-in-Nothing c = c.resolve_at-found.auto.1.1.1.1.1.0 ∙ c.loop-j.invariant.1
+shape_of-outputs-in-Nothing c = c.resolve_at-found.auto.outputs ∙ c.loop-j.invariant.1
 
 pub returns-in-Nothing : goal.returns-in-Nothing
 returns-in-Nothing c = answer_none c.args.constants c.args.text.now (entries c.args.names.now c.args.count) c.args.outputs.now c.args.n _ (mid_none c.args.constants c.args.text.now (entries c.args.names.now c.args.count) c.args.outputs.now c.args.n c.loop-j.outputs c.loop-j.j c.loop-j-test.true c.loop-j.invariant.2 (sym c.resolve_at-found.ensures.value ∙ c.in-Nothing.is))
@@ -25,7 +25,7 @@ pub loop-j-smaller : goal.loop-j-smaller
 loop-j-smaller c = omega (arith, c.loop-j-test.true)
 
 pub loop-j-preserved : goal.loop-j-preserved
-loop-j-preserved c = (omega (arith, c.loop-j-test.true), c.resolve_at-found.auto.1.1.1.1.1.0 ∙ c.loop-j.invariant.1, mid_step c.args.constants c.args.text.now (entries c.args.names.now c.args.count) c.args.outputs.now c.args.n c.loop-j.outputs c.loop-j.j c.loop-j-test.true c.loop-j.invariant.2 _ (sym c.resolve_at-found.ensures.value ∙ c.in_default.is) c.resolve_at-found.new.outputs (c.resolve_at-found.ensures.outputs_after ∙ ap (put_wire c.loop-j.outputs c.loop-j.j) c.in_default.is) c.resolve_at-found.auto.1.1.1.1.1.0)
+loop-j-preserved c = (omega (arith, c.loop-j-test.true), c.resolve_at-found.auto.outputs ∙ c.loop-j.invariant.1, mid_step c.args.constants c.args.text.now (entries c.args.names.now c.args.count) c.args.outputs.now c.args.n c.loop-j.outputs c.loop-j.j c.loop-j-test.true c.loop-j.invariant.2 _ (sym c.resolve_at-found.ensures.value ∙ c.in_default.is) c.resolve_at-found.new.outputs (c.resolve_at-found.ensures.outputs_after ∙ ap (put_wire c.loop-j.outputs c.loop-j.j) c.in_default.is) c.resolve_at-found.auto.outputs)
 
 pub shape_of-outputs-then-n-eq0 : goal.shape_of-outputs-then-n-eq0
 shape_of-outputs-then-n-eq0 c = c.loop-j.invariant.1

@@ -14,4 +14,4 @@ put_node-requires c = record { i_in_bounds = room_of 9 (length c.args.nodes.now)
 
 pub returns : goal.returns
 returns c =
-    let room = room_of 9 (length c.args.nodes.now) c.args.count (lit< tt) (omega (arith, c.records_in-room.ensures, c.if-room-count.false)) in record { nodes_kept_2 = more_kept c.args.nodes.now c.put_node.new.nodes c.args.count c.args.node c.put_node.ensures c.put_node.auto.0 room c.requires.nodes_kept; count_after = rw (← c.records_in-room.ensures) (node_added c.args.nodes.now c.args.count _ c.args.node c.if-room-count.false _ (more_nodes c.args.nodes.now c.put_node.new.nodes c.args.count c.args.node c.put_node.ensures c.put_node.auto.0 room c.requires.nodes_kept)) }
+    let room = room_of 9 (length c.args.nodes.now) c.args.count (lit< tt) (omega (arith, c.records_in-room.ensures, c.if-room-count.false)) in record { nodes_kept_2 = more_kept c.args.nodes.now c.put_node.new.nodes c.args.count c.args.node c.put_node.ensures c.put_node.auto.nodes room c.requires.nodes_kept; count_after = rw (← c.records_in-room.ensures) (node_added c.args.nodes.now c.args.count _ c.args.node c.if-room-count.false _ (more_nodes c.args.nodes.now c.put_node.new.nodes c.args.count c.args.node c.put_node.ensures c.put_node.auto.nodes room c.requires.nodes_kept)) }

@@ -17,4 +17,4 @@ evaluate_refusal-requires c = denied c.evaluate_work.result c.evaluate_work.ensu
 pub returns : goal.returns
 returns c =
     evaluate_refused c.args.nodes.now c.args.outputs.now c.args.assignment.now c.args.values.now c.args.answers.now _ c.evaluate_refusal.ensures _ _
-    (c.refuse.ensures.1 ∙ ap (λ (n : ℕ). replicate n 0) c.evaluate_work.auto.1.1.1.0) (c.refuse.ensures.0 ∙ ap (λ (n : ℕ). replicate n 0) c.evaluate_work.auto.1.1.1.1.0)
+    (c.refuse.ensures.1 ∙ ap (λ (n : ℕ). replicate n 0) c.evaluate_work.auto.values) (c.refuse.ensures.0 ∙ ap (λ (n : ℕ). replicate n 0) c.evaluate_work.auto.answers)

@@ -18,7 +18,7 @@ put_values-requires c =
 pub give-requires : goal.give-requires
 give-requires c =
     let p = told c.prepared.result c.prepared.ensures c.if-prepared.true in
-    (omega arith, p.answers_room, all_below_more (length c.args.nodes.now / 9) _ (omega (arith, p.store-room, c.put_values.auto.1.1.1.0)) (wires_in c.args.outputs.now) p.wired)
+    (omega arith, p.answers_room, all_below_more (length c.args.nodes.now / 9) _ (omega (arith, p.store-room, c.put_values.auto.values)) (wires_in c.args.outputs.now) p.wired)
 
 pub returns-then-put_values : goal.returns-then-put_values
 returns-then-put_values c =
@@ -28,7 +28,7 @@ returns-then-put_values c =
       evaluate_sound c.args.nodes.now c.args.outputs.now c.args.assignment.now (length c.args.values.now) (length c.args.answers.now) p (told c.put_values.result v.0 c.if-put_values.true),
       λ e. (
         g.0 ∙ ap (λ (l : List ℕ). l ++ replicate (length c.args.answers.now - length c.args.outputs.now / 5) 0) (values-outputs _ (nodes_in c.args.nodes.now) (length c.args.nodes.now / 9) (wires_in c.args.outputs.now) c.args.assignment.now p.values (v.1 c.if-put_values.true) p.wired),
-        g.1 ∙ ap (λ (n : ℕ). replicate n 0) c.put_values.auto.1.1.1.0,
+        g.1 ∙ ap (λ (n : ℕ). replicate n 0) c.put_values.auto.values,
       ),
     )
 

@@ -14,7 +14,7 @@ pub put_cell-requires : goal.put_cell-requires
 put_cell-requires c = record { inside = omega (arith, c.requires.0, c.loop-k-test.true); stored = omega (arith, c.requires.1, c.loop-k.invariant.kept, c.loop-k-test.true); known = c.loop-k.invariant.known }
 
 pub shape_of-values-else-put_cell : goal.shape_of-values-else-put_cell
-shape_of-values-else-put_cell c = c.put_cell.auto.1.1.1.0 ∙ c.loop-k.invariant.kept
+shape_of-values-else-put_cell c = c.put_cell.auto.values ∙ c.loop-k.invariant.kept
 
 pub returns-else-put_cell : goal.returns-else-put_cell
 returns-else-put_cell c = λ count old i r w. (

@@ -20,7 +20,7 @@ pub fit_block-requires : goal.fit_block-requires
 fit_block-requires c = c.requires.0
 
 pub shape_of-marks-else-fit_block : goal.shape_of-marks-else-fit_block
-shape_of-marks-else-fit_block c = c.fit_block.auto.1.1.1.1.0 ∙ c.loop-lo.invariant.1
+shape_of-marks-else-fit_block c = c.fit_block.auto.marks ∙ c.loop-lo.invariant.1
 
 pub returns-else-fit_block : goal.returns-else-fit_block
 returns-else-fit_block c =
@@ -35,7 +35,7 @@ loop-lo-smaller c = omega (arith, c.requires.2)
 pub loop-lo-preserved : goal.loop-lo-preserved
 loop-lo-preserved c =
     let e = ap (λ (size : ℕ). fit_in (within c.loop-lo.lo (size * 64)) (graph_of (nodes_of c.args.nodes.now c.args.count)) [] c.args.order.now) (sym c.loop-lo.invariant.1) ∙ sym c.fit_block.ensures ∙ c.if-fit_block.true in
-    (covered_next (graph_of (nodes_of c.args.nodes.now c.args.count)) c.args.order.now c.loop-lo.lo (block_size c.args.marks.now) c.loop-lo.invariant.0 e, c.fit_block.auto.1.1.1.1.0 ∙ c.loop-lo.invariant.1)
+    (covered_next (graph_of (nodes_of c.args.nodes.now c.args.count)) c.args.order.now c.loop-lo.lo (block_size c.args.marks.now) c.loop-lo.invariant.0 e, c.fit_block.auto.marks ∙ c.loop-lo.invariant.1)
 
 pub shape_of-marks : goal.shape_of-marks
 shape_of-marks c = c.loop-lo.invariant.1

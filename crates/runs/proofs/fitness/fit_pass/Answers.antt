@@ -18,7 +18,7 @@ pub fit_entry-requires : goal.fit_entry-requires
 fit_entry-requires c = c.requires.0
 
 pub shape_of-marks-else-fit_entry : goal.shape_of-marks-else-fit_entry
-shape_of-marks-else-fit_entry c = c.fit_entry.auto.1.1.1.1.0 ∙ c.loop-i.invariant.3
+shape_of-marks-else-fit_entry c = c.fit_entry.auto.marks ∙ c.loop-i.invariant.3
 
 pub returns-else-fit_entry : goal.returns-else-fit_entry
 returns-else-fit_entry c =
@@ -39,7 +39,7 @@ loop-i-preserved c =
       c.loop-i.invariant.1 ∙ fit_turn (within c.args.lo (block_size c.args.marks.now)) (graph_of (nodes_of c.args.nodes.now c.args.count)) c.args.order.now c.loop-i.i h
           ∙ ap (λ (b : Bool). b && fit_in (within c.args.lo (block_size c.args.marks.now)) (graph_of (nodes_of c.args.nodes.now c.args.count)) (take (c.loop-i.i + 1) c.args.order.now) (drop (c.loop-i.i + 1) c.args.order.now)) e,
       omega arith,
-      c.fit_entry.auto.1.1.1.1.0 ∙ c.loop-i.invariant.3,
+      c.fit_entry.auto.marks ∙ c.loop-i.invariant.3,
       refl,
     )
 

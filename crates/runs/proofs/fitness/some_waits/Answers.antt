@@ -25,12 +25,11 @@ pub overflow_step-k : goal.overflow_step-k
 overflow_step-k c = omega (arith, c.loop-k.invariant.2)
 
 pub loop-k-preserved : goal.loop-k-preserved
-loop-k-preserved c =
-    (
-      c.loop-k.invariant.0 ∙ some-later (wire_waits c.args.nodes.now c.args.lo c.args.marks.now) (wires_of c.args.n) no_wire c.loop-k.k (omega (arith, c.loop-k.invariant.2)) (ap (wire_waits c.args.nodes.now c.args.lo c.args.marks.now) (sym c.wire_at-w.ensures) ∙ sym c.wire_waits.ensures ∙ c.if-wire_waits.false),
-      omega arith,
-      c.loop-k.invariant.2,
-    )
+loop-k-preserved c = (
+  c.loop-k.invariant.0 ∙ some-later (wire_waits c.args.nodes.now c.args.lo c.args.marks.now) (wires_of c.args.n) no_wire c.loop-k.k (omega (arith, c.loop-k.invariant.2)) (ap (wire_waits c.args.nodes.now c.args.lo c.args.marks.now) (sym c.wire_at-w.ensures) ∙ sym c.wire_waits.ensures ∙ c.if-wire_waits.false),
+  omega arith,
+  c.loop-k.invariant.2,
+)
 
 pub returns : goal.returns
 returns c =

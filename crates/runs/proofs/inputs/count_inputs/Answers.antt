@@ -17,12 +17,11 @@ pub overflow_add-n : goal.overflow_add-n
 overflow_add-n c = omega (arith, cond_small (is_cell_node (node_at c.args.nodes.now c.loop-k.k)), c.input_at-n.ensures, c.requires)
 
 pub loop-k-preserved : goal.loop-k-preserved
-loop-k-preserved c =
-    (
-      omega (arith, c.loop-k.invariant.0, count_turn c.args.nodes.now c.args.count c.loop-k.k c.loop-k-test.true, c.input_at-n.ensures),
-      omega arith,
-      omega (arith, cond_small (is_cell_node (node_at c.args.nodes.now c.loop-k.k)), c.input_at-n.ensures, c.loop-k.invariant.2),
-    )
+loop-k-preserved c = (
+  omega (arith, c.loop-k.invariant.0, count_turn c.args.nodes.now c.args.count c.loop-k.k c.loop-k-test.true, c.input_at-n.ensures),
+  omega arith,
+  omega (arith, cond_small (is_cell_node (node_at c.args.nodes.now c.loop-k.k)), c.input_at-n.ensures, c.loop-k.invariant.2),
+)
 
 pub returns : goal.returns
 unfolding input_count

@@ -24,8 +24,7 @@ pub shape_of-values : goal.shape_of-values
 shape_of-values c = c.loop-p.invariant.kept
 
 pub returns : goal.returns
-returns c =
-    (
-      λ e. put_end c.args.nodes.now c.args.count c.args.assignment.now c.args.values.now c.loop-p.k c.loop-p.p c.loop-p.values c.loop-p.invariant c.loop-p-test.false,
-      λ b. (refl, put_whole c.args.nodes.now c.args.count c.args.assignment.now c.args.values.now c.loop-p.k c.loop-p.p c.loop-p.values c.loop-p.invariant c.loop-p-test.false b),
-    )
+returns c = (
+  λ e. put_end c.args.nodes.now c.args.count c.args.assignment.now c.args.values.now c.loop-p.k c.loop-p.p c.loop-p.values c.loop-p.invariant c.loop-p-test.false,
+  λ b. (refl, put_whole c.args.nodes.now c.args.count c.args.assignment.now c.args.values.now c.loop-p.k c.loop-p.p c.loop-p.values c.loop-p.invariant c.loop-p-test.false b),
+)

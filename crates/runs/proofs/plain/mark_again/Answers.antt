@@ -20,7 +20,7 @@ loop-i-preserved c =
       },
       omega (arith, c.loop-i.invariant.1),
       omega (arith, c.loop-i-test.true),
-      c.mark_node.auto.1.1.0 ∙ c.loop-i.invariant.3,
+      c.mark_node.auto.values ∙ c.loop-i.invariant.3,
     )
 
 pub shape_of-values : goal.shape_of-values

@@ -22,22 +22,22 @@ pub plain_step-requires : goal.plain_step-requires
 plain_step-requires c = (c.requires.0, omega (arith, c.if-count-x.false, c.requires.1.room), omega (arith, c.if-count-x.false, c.requires.1.stored, c.loop-i.invariant.3))
 
 pub shape_of-values-else-plain_step : goal.shape_of-values-else-plain_step
-shape_of-values-else-plain_step c = c.plain_step.auto.1.1.1.0 ∙ c.loop-i.invariant.3
+shape_of-values-else-plain_step c = c.plain_step.auto.values ∙ c.loop-i.invariant.3
 
 pub returns-else-plain_step : goal.returns-else-plain_step
 returns-else-plain_step c = (λ e. absurd (false≢true e), λ e. others_more c.args.count c.args.order.now c.args.from (c.loop-i.i + 1) c.args.end c.args.values.now c.plain_step.new.values (omega (arith, c.loop-i-test.true)) (others_step c.args.count c.args.order.now c.args.from c.loop-i.i c.args.values.now c.loop-i.values c.plain_step.new.values c.loop-i.invariant.1 c.loop-i.invariant.4 c.if-count-x.false c.plain_step.ensures.1))
 
 pub shape_of-values-then-count-y : goal.shape_of-values-then-count-y
-shape_of-values-then-count-y c = c.plain_step.auto.1.1.1.0 ∙ c.loop-i.invariant.3
+shape_of-values-then-count-y c = c.plain_step.auto.values ∙ c.loop-i.invariant.3
 
 pub returns-then-count-y : goal.returns-then-count-y
 returns-then-count-y c = (λ e. absurd (false≢true e), λ e. others_more c.args.count c.args.order.now c.args.from (c.loop-i.i + 1) c.args.end c.args.values.now c.plain_step.new.values (omega (arith, c.loop-i-test.true)) (others_step c.args.count c.args.order.now c.args.from c.loop-i.i c.args.values.now c.loop-i.values c.plain_step.new.values c.loop-i.invariant.1 c.loop-i.invariant.4 c.if-count-x.false c.plain_step.ensures.1))
 
 pub plain_step-requires-in-loop-i : goal.plain_step-requires-in-loop-i
-plain_step-requires-in-loop-i c = (c.requires.0, omega (arith, c.if-count-y.false, c.requires.1.room), omega (arith, c.if-count-y.false, c.requires.1.stored, c.loop-i.invariant.3, c.plain_step.auto.1.1.1.0))
+plain_step-requires-in-loop-i c = (c.requires.0, omega (arith, c.if-count-y.false, c.requires.1.room), omega (arith, c.if-count-y.false, c.requires.1.stored, c.loop-i.invariant.3, c.plain_step.auto.values))
 
 pub shape_of-values-else-plain_step-2 : goal.shape_of-values-else-plain_step-2
-shape_of-values-else-plain_step-2 c = c.plain_step-in-loop-i.auto.1.1.1.0 ∙ c.plain_step.auto.1.1.1.0 ∙ c.loop-i.invariant.3
+shape_of-values-else-plain_step-2 c = c.plain_step-in-loop-i.auto.values ∙ c.plain_step.auto.values ∙ c.loop-i.invariant.3
 
 pub returns-else-plain_step-2 : goal.returns-else-plain_step-2
 returns-else-plain_step-2 c = (λ e. absurd (false≢true e), λ e. others_more c.args.count c.args.order.now c.args.from (c.loop-i.i + 1 + 1) c.args.end c.args.values.now c.plain_step-in-loop-i.new.values (omega (arith, c.loop-i-test.true)) (others_step c.args.count c.args.order.now c.args.from (c.loop-i.i + 1) c.args.values.now c.plain_step.new.values c.plain_step-in-loop-i.new.values (omega (arith, c.loop-i.invariant.1)) (others_step c.args.count c.args.order.now c.args.from c.loop-i.i c.args.values.now c.loop-i.values c.plain_step.new.values c.loop-i.invariant.1 c.loop-i.invariant.4 c.if-count-x.false c.plain_step.ensures.1) c.if-count-y.false c.plain_step-in-loop-i.ensures.1))
@@ -48,7 +48,7 @@ loop-i-preserved c =
       λ k n. walked_pair c.args.nodes.now c.args.count c.args.order.now c.args.from c.loop-i.i c.loop-i.invariant.1 (omega (arith, c.loop-i-test.true, c.requires.3)) c.loop-i.kinds c.loop-i.counts c.args.values.now c.loop-i.values c.plain_step.new.values c.plain_step-in-loop-i.new.values c.loop-i.invariant.0 c.if-count-x.false c.if-count-y.false (c.plain_step.ensures.0 c.if-plain_step.true) (c.plain_step-in-loop-i.ensures.0 c.if-plain_step-2.true) k n,
       omega (arith, c.loop-i.invariant.1),
       omega (arith, c.loop-i-test.true),
-      c.plain_step-in-loop-i.auto.1.1.1.0 ∙ c.plain_step.auto.1.1.1.0 ∙ c.loop-i.invariant.3,
+      c.plain_step-in-loop-i.auto.values ∙ c.plain_step.auto.values ∙ c.loop-i.invariant.3,
       subst (λ (m : ℕ). OthersKept c.args.count c.args.order.now c.args.from m c.args.values.now c.plain_step-in-loop-i.new.values) z (others_step c.args.count c.args.order.now c.args.from (c.loop-i.i + 1) c.args.values.now c.plain_step.new.values c.plain_step-in-loop-i.new.values (omega (arith, c.loop-i.invariant.1)) (others_step c.args.count c.args.order.now c.args.from c.loop-i.i c.args.values.now c.loop-i.values c.plain_step.new.values c.loop-i.invariant.1 c.loop-i.invariant.4 c.if-count-x.false c.plain_step.ensures.1) c.if-count-y.false c.plain_step-in-loop-i.ensures.1),
     )
 
@@ -62,13 +62,13 @@ pub plain_step-requires-then-i-end : goal.plain_step-requires-then-i-end
 plain_step-requires-then-i-end c = (c.requires.0, omega (arith, c.if-count-z.false, c.requires.1.room), omega (arith, c.if-count-z.false, c.requires.1.stored, c.loop-i.invariant.3))
 
 pub shape_of-values-else-plain_step-3 : goal.shape_of-values-else-plain_step-3
-shape_of-values-else-plain_step-3 c = c.plain_step-then-i-end.auto.1.1.1.0 ∙ c.loop-i.invariant.3
+shape_of-values-else-plain_step-3 c = c.plain_step-then-i-end.auto.values ∙ c.loop-i.invariant.3
 
 pub returns-else-plain_step-3 : goal.returns-else-plain_step-3
 returns-else-plain_step-3 c = (λ e. absurd (false≢true e), λ e. others_more c.args.count c.args.order.now c.args.from (c.loop-i.i + 1) c.args.end c.args.values.now c.plain_step-then-i-end.new.values (omega (arith, c.if-i-end.true)) (others_step c.args.count c.args.order.now c.args.from c.loop-i.i c.args.values.now c.loop-i.values c.plain_step-then-i-end.new.values c.loop-i.invariant.1 c.loop-i.invariant.4 c.if-count-z.false c.plain_step-then-i-end.ensures.1))
 
 pub shape_of-values-then-i-end : goal.shape_of-values-then-i-end
-shape_of-values-then-i-end c = c.plain_step-then-i-end.auto.1.1.1.0 ∙ c.loop-i.invariant.3
+shape_of-values-then-i-end c = c.plain_step-then-i-end.auto.values ∙ c.loop-i.invariant.3
 
 pub returns-then-i-end : goal.returns-then-i-end
 returns-then-i-end c =

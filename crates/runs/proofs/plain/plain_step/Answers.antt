@@ -13,18 +13,17 @@ pub plain_place-place-requires : goal.plain_place-place-requires
 plain_place-place-requires c = (c.requires.1, c.requires.2, c.if-nodes-x-ge16.false, c.both_earlier.ensures c.if-both_earlier.true)
 
 pub returns-then-place-lt144 : goal.returns-then-place-lt144
-returns-then-place-lt144 c =
-    (
-      λ e g kind count.
-          let p = c.plain_place-place.ensures g kind count in (
-            p.found c.if-place-lt144.true,
-            record {
-              stored = ap (set c.args.values.now c.args.x) (p.answer c.if-place-lt144.true c.args.answers.now c.requires.0);
-              answered = answer_small c.args.values.now (node_at c.args.nodes.now c.args.x);
-            },
-          ),
-      λ k h. get_or-set_other c.args.values.now c.args.x k _ 0 h,
-    )
+returns-then-place-lt144 c = (
+  λ e g kind count.
+      let p = c.plain_place-place.ensures g kind count in (
+        p.found c.if-place-lt144.true,
+        record {
+          stored = ap (set c.args.values.now c.args.x) (p.answer c.if-place-lt144.true c.args.answers.now c.requires.0);
+          answered = answer_small c.args.values.now (node_at c.args.nodes.now c.args.x);
+        },
+      ),
+  λ k h. get_or-set_other c.args.values.now c.args.x k _ 0 h,
+)
 
 pub returns-else-place-lt144 : goal.returns-else-place-lt144
 returns-else-place-lt144 c = (λ e. absurd (false≢true e), λ k h. refl)

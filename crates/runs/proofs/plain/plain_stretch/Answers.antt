@@ -9,7 +9,7 @@ returns-then-plain_list c = (λ e. c.plain_list.ensures.0 c.if-plain_list.true, 
 
 pub returns : goal.returns
 returns c =
-    let k : length c.mark_again.new.values ≡ length c.args.values.now = c.mark_again.auto.1.1.1.1.0 ∙ c.plain_list.auto.1.1.1.1.1.1.0 in
+    let k : length c.mark_again.new.values ≡ length c.args.values.now = c.mark_again.auto.values ∙ c.plain_list.auto.values in
     let o = c.plain_list.ensures.1 c.if-plain_list.false in (
       λ e. absurd (false≢true e),
       λ e. (

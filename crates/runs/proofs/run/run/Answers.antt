@@ -17,4 +17,4 @@ run_refusal-requires c = denied c.work.result c.work.ensures.0 c.if-work.false
 pub returns : goal.returns
 returns c =
     run_refused c.args.nodes.now c.args.outputs.now c.args.order.now c.args.assignment.now c.args.values.now c.args.answers.now _ c.run_refusal.ensures _ _
-    (c.refuse.ensures.1 ∙ ap (λ (n : ℕ). replicate n 0) c.work.auto.1.1.1.1.0) (c.refuse.ensures.0 ∙ ap (λ (n : ℕ). replicate n 0) c.work.auto.1.1.1.1.1.0)
+    (c.refuse.ensures.1 ∙ ap (λ (n : ℕ). replicate n 0) c.work.auto.values) (c.refuse.ensures.0 ∙ ap (λ (n : ℕ). replicate n 0) c.work.auto.answers)

@@ -18,7 +18,7 @@ run_store-requires c =
 pub give-requires : goal.give-requires
 give-requires c =
     let p = told c.prepared.result c.prepared.ensures c.if-prepared.true in
-    (omega arith, p.answers_room, all_below_more (length c.args.nodes.now / 9) _ (omega (arith, p.store-room, c.run_store.auto.1.1.1.1.0)) (wires_in c.args.outputs.now) p.wired)
+    (omega arith, p.answers_room, all_below_more (length c.args.nodes.now / 9) _ (omega (arith, p.store-room, c.run_store.auto.values)) (wires_in c.args.outputs.now) p.wired)
 
 pub returns-then-run_store : goal.returns-then-run_store
 returns-then-run_store c =
@@ -30,7 +30,7 @@ returns-then-run_store c =
       λ e. (
         g.0 ∙ ap (λ (o : List ℕ). o ++ replicate (length c.args.answers.now - length c.args.outputs.now / 5) 0)
             (run_gives c.args.nodes.now c.args.outputs.now c.args.order.now c.args.assignment.now (length c.args.values.now) (length c.args.answers.now) p b.0 l b.1 _ c.args.values.now (c.run_store.ensures.1 c.if-run_store.true) p.store-room),
-        g.1 ∙ ap (λ (n : ℕ). replicate n 0) c.run_store.auto.1.1.1.1.0,
+        g.1 ∙ ap (λ (n : ℕ). replicate n 0) c.run_store.auto.values,
       ),
     )
 

@@ -24,7 +24,7 @@ pub step-requires : goal.step-requires
 step-requires c = (c.requires.0, steppable_one c.args.nodes.now c.args.count c.loop-i.values c.loop-i.invariant.0.steppable (get_or c.args.order.now c.loop-i.i 0) c.if-count-x.false)
 
 pub shape_of-values-else-step : goal.shape_of-values-else-step
-shape_of-values-else-step c = c.step.auto.1.1.1.1.0 ∙ c.loop-i.invariant.3
+shape_of-values-else-step c = c.step.auto.values ∙ c.loop-i.invariant.3
 
 pub returns-else-step : goal.returns-else-step
 returns-else-step c =
@@ -41,7 +41,7 @@ loop-i-preserved c =
       walked_then c.args.nodes.now c.args.count c.args.order.now c.args.from c.loop-i.i (c.loop-i.i + 1) c.args.values.now c.loop-i.values _ c.loop-i.invariant.1 (omega arith) c.loop-i.invariant.0 (walked_step c.args.nodes.now c.args.count c.args.order.now c.loop-i.i h c.loop-i.values _ c.loop-i.invariant.0.steppable c.if-count-x.false t e),
       omega (arith, c.loop-i.invariant.1),
       omega (arith, c.loop-i-test.true),
-      c.step.auto.1.1.1.1.0 ∙ c.loop-i.invariant.3,
+      c.step.auto.values ∙ c.loop-i.invariant.3,
     )
 
 pub shape_of-values : goal.shape_of-values

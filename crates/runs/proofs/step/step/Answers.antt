@@ -9,11 +9,10 @@ pub returns-then-place-ge144 : goal.returns-then-place-ge144
 returns-then-place-ge144 c = (λ t. c.answer_place-place.ensures.missed c.if-place-ge144.true t, λ e. absurd (false≢true e))
 
 pub returns : goal.returns
-returns c =
-    (
-      c.answer_place-place.ensures.found c.if-place-ge144.false,
-      λ e. record {
-        stored = ap (set c.args.values.now c.args.x) (c.answer_place-place.ensures.answer c.if-place-ge144.false c.args.answers.now c.requires.0);
-        answered = answer_small c.args.values.now (node_at c.args.nodes.now c.args.x);
-      },
-    )
+returns c = (
+  c.answer_place-place.ensures.found c.if-place-ge144.false,
+  λ e. record {
+    stored = ap (set c.args.values.now c.args.x) (c.answer_place-place.ensures.answer c.if-place-ge144.false c.args.answers.now c.requires.0);
+    answered = answer_small c.args.values.now (node_at c.args.nodes.now c.args.x);
+  },
+)

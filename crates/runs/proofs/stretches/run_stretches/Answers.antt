@@ -17,7 +17,7 @@ pub run_stretch-how-requires : goal.run_stretch-how-requires
 run_stretch-how-requires c = (c.requires.0, c.requires.1, zero-le, c.stretch_end-from.ensures.1)
 
 pub shape_of-values-then-how-eq0 : goal.shape_of-values-then-how-eq0
-shape_of-values-then-how-eq0 c = c.run_stretch-how.auto.1.1.1.1.1.1.1.1.0
+shape_of-values-then-how-eq0 c = c.run_stretch-how.auto.values
 
 pub returns-then-how-eq0 : goal.returns-then-how-eq0
 returns-then-how-eq0 c =
@@ -38,7 +38,7 @@ pub run_stretch-how-requires-in-loop-from : goal.run_stretch-how-requires-in-loo
 run_stretch-how-requires-in-loop-from c = (c.requires.0, c.loop-from.invariant.0.steppable, c.stretch_end-end.ensures.0, c.stretch_end-end.ensures.1)
 
 pub shape_of-values-then-how-eq0-2 : goal.shape_of-values-then-how-eq0-2
-shape_of-values-then-how-eq0-2 c = c.run_stretch-how-in-loop-from.auto.1.1.1.1.1.1.1.1.0 ∙ c.loop-from.invariant.3 ∙ c.run_stretch-how.auto.1.1.1.1.1.1.1.1.0
+shape_of-values-then-how-eq0-2 c = c.run_stretch-how-in-loop-from.auto.values ∙ c.loop-from.invariant.3 ∙ c.run_stretch-how.auto.values
 
 pub returns-then-how-eq0-2 : goal.returns-then-how-eq0-2
 returns-then-how-eq0-2 c =
@@ -52,17 +52,16 @@ pub loop-from-smaller : goal.loop-from-smaller
 loop-from-smaller c = omega (arith, c.stretch_end-end.ensures.2 c.loop-from-test.true, c.stretch_end-end.ensures.1)
 
 pub loop-from-preserved : goal.loop-from-preserved
-loop-from-preserved c =
-    (
-      c.run_stretch-how-in-loop-from.ensures.0 (omega (arith, c.if-how-eq0-2.false)) c.stretch_end-from.result c.run_stretch-how.new.values c.loop-from.invariant.1 c.loop-from.invariant.0,
-      omega (arith, c.loop-from.invariant.1, c.stretch_end-end.ensures.0),
-      c.stretch_end-end.ensures.1,
-      c.run_stretch-how-in-loop-from.auto.1.1.1.1.1.1.1.1.0 ∙ c.loop-from.invariant.3,
-      c.look_ahead-lead.ensures,
-    )
+loop-from-preserved c = (
+  c.run_stretch-how-in-loop-from.ensures.0 (omega (arith, c.if-how-eq0-2.false)) c.stretch_end-from.result c.run_stretch-how.new.values c.loop-from.invariant.1 c.loop-from.invariant.0,
+  omega (arith, c.loop-from.invariant.1, c.stretch_end-end.ensures.0),
+  c.stretch_end-end.ensures.1,
+  c.run_stretch-how-in-loop-from.auto.values ∙ c.loop-from.invariant.3,
+  c.look_ahead-lead.ensures,
+)
 
 pub shape_of-values : goal.shape_of-values
-shape_of-values c = c.loop-from.invariant.3 ∙ c.run_stretch-how.auto.1.1.1.1.1.1.1.1.0
+shape_of-values c = c.loop-from.invariant.3 ∙ c.run_stretch-how.auto.values
 
 pub returns : goal.returns
 returns c =

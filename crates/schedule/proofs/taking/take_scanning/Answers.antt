@@ -30,7 +30,7 @@ pub loop-cells-smaller : goal.loop-cells-smaller
 loop-cells-smaller c = omega (arith, took_room _ _ _ _ _ _ _ _ c.loop-cells.invariant.0 c.loop-cells.invariant.1 _ c.pick_next-picked.ensures.node_is c.requires.0)
 
 pub loop-cells-preserved : goal.loop-cells-preserved
-loop-cells-preserved c = let r = took_room _ _ _ _ _ _ _ _ c.loop-cells.invariant.0 c.loop-cells.invariant.1 _ c.pick_next-picked.ensures.node_is c.requires.0 in (took_more _ _ _ _ _ _ _ _ c.loop-cells.invariant.0 c.loop-cells.invariant.1 _ c.pick_next-picked.ensures.node_is (omega (arith, r, c.requires.2, c.loop-cells.invariant.2)) _ c.release-cells.ensures.0, simp length-set (omega (arith, r, c.requires.2, c.loop-cells.invariant.2)), simp length-set c.loop-cells.invariant.2, c.release-cells.auto.0 ∙ c.loop-cells.invariant.3, drop_more c.loop-cells.order c.args.order.now c.loop-cells.taken _ c.loop-cells.invariant.4, c.release-cells.ensures.1)
+loop-cells-preserved c = let r = took_room _ _ _ _ _ _ _ _ c.loop-cells.invariant.0 c.loop-cells.invariant.1 _ c.pick_next-picked.ensures.node_is c.requires.0 in (took_more _ _ _ _ _ _ _ _ c.loop-cells.invariant.0 c.loop-cells.invariant.1 _ c.pick_next-picked.ensures.node_is (omega (arith, r, c.requires.2, c.loop-cells.invariant.2)) _ c.release-cells.ensures.0, simp length-set (omega (arith, r, c.requires.2, c.loop-cells.invariant.2)), simp length-set c.loop-cells.invariant.2, c.release-cells.auto.area ∙ c.loop-cells.invariant.3, drop_more c.loop-cells.order c.args.order.now c.loop-cells.taken _ c.loop-cells.invariant.4, c.release-cells.ensures.1)
 
 pub shape_of-area-after-loop-cells : goal.shape_of-area-after-loop-cells
 shape_of-area-after-loop-cells c = c.loop-cells.invariant.3

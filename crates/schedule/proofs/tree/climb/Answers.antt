@@ -13,7 +13,7 @@ pub join-requires : goal.join-requires
 join-requires c = join_needs _ _ _ _ _ (omega (arith, c.loop-v-test.true)) c.loop-v.invariant.1 c.loop-v.invariant.0 _ c.requires.2
 
 pub shape_of-tree-then-not-join : goal.shape_of-tree-then-not-join
-shape_of-tree-then-not-join c = c.join.auto.0 ∙ c.loop-v.invariant.3
+shape_of-tree-then-not-join c = c.join.auto.tree ∙ c.loop-v.invariant.3
 
 pub returns-then-not-join : goal.returns-then-not-join
 returns-then-not-join c = rw c.join.ensures.0 (join-stop _ _ _ _ _ (omega (arith, c.loop-v-test.true)) c.loop-v.invariant.1 (sym c.join.ensures.1 ∙ not_taken c.join.result c.if-not-join.true-raw) c.loop-v.invariant.0, leaves_then (key_at c.args.keys.now) c.args.leaves c.args.nodes c.loop-v.tree c.loop-v.v (omega (arith, c.loop-v-test.true)) c.loop-v.invariant.1 c.args.tree.now c.loop-v.invariant.2)

@@ -5,4 +5,4 @@ pub mark-requires : goal.mark-requires
 mark-requires c = (set_room _ c.args.area.now c.requires.0, c.requires.1, set_levels _ _ c.requires.0 c.requires.2)
 
 pub returns : goal.returns
-returns c = (set_moved _ _ c.requires.0 _ _ _ c.mark.auto.0 c.mark.ensures, set-kept _ _ c.requires.0 _ _ _ c.mark.ensures)
+returns c = (set_moved _ _ c.requires.0 _ _ _ c.mark.auto.area c.mark.ensures, set-kept _ _ c.requires.0 _ _ _ c.mark.ensures)

@@ -15,14 +15,14 @@ put_stretch-b-requires c =
     let i : c.args.start + c.part_len-n.result ≤ length c.args.text.now = omega (arith, c.part_len-n.ensures.1, c.requires.0) in
     let r : c.put_if-a.result + c.part_len-n.result ≤ length c.args.joined.now =
     room-part c.args.gathered l c.args.out (length c.args.joined.now) c.requires.1 c.put_if-a.result c.part_len-n.result c.put_if-a.ensures.count (part_size c.args.text.now l c.args.start c.part_len-n.result i c.part_len-n.ensures.0) in
-    (i, omega (arith, c.put_if-a.auto.0))
+    (i, omega (arith, c.put_if-a.auto.joined))
 
 pub put_if-c-requires : goal.put_if-c-requires
 put_if-c-requires c =
     let l = stretch c.args.text.now c.args.start c.args.len in
     let r =
     room_end c.args.gathered l c.args.out (length c.args.joined.now) c.requires.1 c.put_if-a.result c.put_stretch-b.result (stretch c.args.text.now c.args.start c.part_len-n.result) c.is_continued-more.result c.put_if-a.ensures.count c.put_stretch-b.ensures.count c.part_len-n.ensures.0 c.is_continued-more.ensures in
-    omega (arith, r, c.put_if-a.auto.0, c.put_stretch-b.auto.1.1.1.0)
+    omega (arith, r, c.put_if-a.auto.joined, c.put_stretch-b.auto.joined)
 
 pub returns : goal.returns
 returns c =

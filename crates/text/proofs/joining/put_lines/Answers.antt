@@ -31,8 +31,8 @@ loop-at-preserved c =
     let i : c.loop-at.at < length c.args.text.now = omega (arith, c.loop-at-test.true) in
     let r = turn_room c.args.text.now c.loop-at.joined c.loop-at.at c.loop-at.out c.loop-at.gathered c.loop-at.invariant.2 c.loop-at.invariant.3 c.find_far_byte-end.result (length c.loop-at.joined) i n c.find_far_byte-end.ensures.0 in (
       omega (arith, c.find_far_byte-end.ensures.1),
-      c.put_raw-p.auto.1.1.1.1.0 ∙ c.loop-at.invariant.1,
-      omega (arith, r, c.put_raw-p.auto.1.1.1.1.0, c.put_raw-p.ensures.0.count),
+      c.put_raw-p.auto.joined ∙ c.loop-at.invariant.1,
+      omega (arith, r, c.put_raw-p.auto.joined, c.put_raw-p.ensures.0.count),
       turn_after c.args.text.now c.loop-at.joined c.loop-at.at c.loop-at.out c.loop-at.gathered c.loop-at.invariant.2 c.loop-at.invariant.3 c.find_far_byte-end.result (length c.loop-at.joined) i n c.find_far_byte-end.ensures.0
           c.put_raw-p.new.joined c.put_raw-p.result.out c.put_raw-p.result.gathered c.put_raw-p.ensures.0 c.put_raw-p.ensures.1,
       record { from = c.loop-at.at; before = omega (arith, c.find_far_byte-end.ensures.0); first = c.next_comment-comment.ensures },
@@ -43,11 +43,10 @@ put_if-requires c =
     omega (arith, c.requires, c.loop-at.invariant.1, end_room c.args.text.now c.loop-at.joined c.loop-at.at c.loop-at.out c.loop-at.gathered c.loop-at.invariant.2 c.loop-at.invariant.3 c.loop-at-test.false)
 
 pub shape_of-joined : goal.shape_of-joined
-shape_of-joined c = c.put_if.auto.0 ∙ c.loop-at.invariant.1
+shape_of-joined c = c.put_if.auto.joined ∙ c.loop-at.invariant.1
 
 pub returns : goal.returns
-returns c =
-    (
-      end_after c.args.text.now c.loop-at.joined c.loop-at.at c.loop-at.out c.loop-at.gathered c.loop-at.invariant.2 c.loop-at.invariant.3 c.loop-at-test.false c.put_if.new.joined c.put_if.result c.put_if.ensures,
-      omega (arith, c.put_if.ensures.count, end_room c.args.text.now c.loop-at.joined c.loop-at.at c.loop-at.out c.loop-at.gathered c.loop-at.invariant.2 c.loop-at.invariant.3 c.loop-at-test.false),
-    )
+returns c = (
+  end_after c.args.text.now c.loop-at.joined c.loop-at.at c.loop-at.out c.loop-at.gathered c.loop-at.invariant.2 c.loop-at.invariant.3 c.loop-at-test.false c.put_if.new.joined c.put_if.result c.put_if.ensures,
+  omega (arith, c.put_if.ensures.count, end_room c.args.text.now c.loop-at.joined c.loop-at.at c.loop-at.out c.loop-at.gathered c.loop-at.invariant.2 c.loop-at.invariant.3 c.loop-at-test.false),
+)
