@@ -18,10 +18,10 @@ pub returns : goal.returns
 returns c =
     let room = room_of 5 (length c.args.outputs.now) c.args.count (lit< tt) (omega (arith, c.records_in-room.ensures, c.if-room-count.false)) in
     let w : Word = record { start = c.args.start; len = c.args.len } in
-    let l = more_words c.args.outputs.now c.put.new.area c.args.count w c.put.ensures c.put.auto.outputs c.requires.words_kept.clean in record {
+    let l = more_words c.args.outputs.now c.put.new.area c.args.count w c.put.ensures c.put.auto.area c.requires.words_kept.clean in record {
       words_kept_2 = record {
-        room = omega (arith, c.put.auto.outputs, room);
-        clean = more_words_clean c.args.outputs.now c.put.new.area c.args.count w c.put.ensures c.put.auto.outputs c.requires.words_kept.clean;
+        room = omega (arith, c.put.auto.area, room);
+        clean = more_words_clean c.args.outputs.now c.put.new.area c.args.count w c.put.ensures c.put.auto.area c.requires.words_kept.clean;
         inside = in_more (length c.args.text.now) (words_of c.args.outputs.now c.args.count) _ w l c.requires.words_kept.inside c.requires.len_in_bounds;
       };
       count_after = rw (← c.records_in-room.ensures) (output_added c.args.outputs.now c.args.count _ w c.if-room-count.false _ l);

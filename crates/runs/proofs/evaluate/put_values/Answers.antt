@@ -10,7 +10,7 @@ pub put_inputs-requires : goal.put_inputs-requires
 put_inputs-requires c = marked_puttable c.args.nodes.now c.args.count c.args.assignment.now (length c.args.values.now) _ c.requires.0 c.mark_all.ensures c.requires.1 (bits_below c.args.assignment.now c.requires.2)
 
 pub returns-then-put_inputs : goal.returns-then-put_inputs
-returns-then-put_inputs c = values_tell c.args.nodes.now c.args.count c.args.assignment.now (length c.args.values.now) _ c.requires.0 c.mark_all.ensures c.requires.1 c.requires.2 _ c.put_all.new.1.1.1.0 c.put_all.result (c.put_inputs.ensures.0 c.if-put_inputs.true) (λ b. (c.put_inputs.ensures.1 b).1) c.put_all.ensures.0 c.put_all.ensures.1
+returns-then-put_inputs c = values_tell c.args.nodes.now c.args.count c.args.assignment.now (length c.args.values.now) _ c.requires.0 c.mark_all.ensures c.requires.1 c.requires.2 _ c.put_all.new.values c.put_all.result (c.put_inputs.ensures.0 c.if-put_inputs.true) (λ b. (c.put_inputs.ensures.1 b).1) c.put_all.ensures.0 c.put_all.ensures.1
 
 pub returns : goal.returns
 returns c = (λ b. clash (c.put_inputs.ensures.1 b).0 c.if-put_inputs.false, λ e. absurd (false≢true e))

@@ -13,4 +13,4 @@ fit_pass-requires c = (c.requires, marks_none c.args.lo (length c.args.marks.now
 
 pub returns : goal.returns
 returns c =
-    c.fit_pass.ensures ∙ ap (λ (size : ℕ). fit_in (within c.args.lo (size * 64)) (graph_of (nodes_of c.args.nodes.now c.args.count)) [] c.args.order.now) c.clear.auto.marks
+    c.fit_pass.ensures ∙ ap (λ (size : ℕ). fit_in (within c.args.lo (size * 64)) (graph_of (nodes_of c.args.nodes.now c.args.count)) [] c.args.order.now) c.clear.auto.area

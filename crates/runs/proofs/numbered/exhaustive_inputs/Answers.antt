@@ -17,7 +17,7 @@ put_number-requires c =
     let f = sym (counted_fault c.args.nodes.now c.args.outputs.now c.args.number (length c.args.assignment.now) n c.checked_inputs-n.ensures _ c.exhaustive_fault-fault.ensures) ∙ c.in-Sound.is in
     let r = inputs_of c.args.nodes.now c.args.outputs.now c.args.number (length c.args.assignment.now) f in
     let m = counted-inputs c.args.nodes.now c.args.outputs.now c.args.number (length c.args.assignment.now) n c.checked_inputs-n.ensures f in
-    (omega (arith, r.0, m), omega (arith, r.1, m, c.clear_bytes.auto.assignment))
+    (omega (arith, r.0, m), omega (arith, r.1, m, c.clear_bytes.auto.area))
 
 pub returns-in-Sound : goal.returns-in-Sound
 returns-in-Sound c =

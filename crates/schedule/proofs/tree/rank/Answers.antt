@@ -6,4 +6,4 @@ pub join_all-requires : goal.join_all-requires
 join_all-requires c = (ranked_part _ _ _ _ _ c.requires.0 c.requires.1 c.requires.2 c.put_leaves.ensures, omega arith, c.requires.3)
 
 pub returns : goal.returns
-returns c = ranked_whole _ _ _ _ _ c.requires.0 c.requires.1 c.requires.2 c.put_leaves.ensures _ c.join_all.auto.area c.join_all.ensures.0 c.join_all.ensures.1
+returns c = ranked_whole _ _ _ _ _ c.requires.0 c.requires.1 c.requires.2 c.put_leaves.ensures _ c.join_all.auto.tree c.join_all.ensures.0 c.join_all.ensures.1

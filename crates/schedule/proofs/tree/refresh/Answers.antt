@@ -9,4 +9,4 @@ pub climb-requires : goal.climb-requires
 climb-requires c = (refreshed_joined _ _ _ _ _ _ c.requires.0 c.requires.1 c.put_leaf.ensures, omega (arith, c.requires.1), c.requires.2)
 
 pub returns : goal.returns
-returns c = refreshed _ _ _ _ _ _ c.requires.0 c.requires.1 c.put_leaf.ensures _ c.climb.auto.area c.climb.ensures.0 c.climb.ensures.1
+returns c = refreshed _ _ _ _ _ _ c.requires.0 c.requires.1 c.put_leaf.ensures _ c.climb.auto.tree c.climb.ensures.0 c.climb.ensures.1

@@ -4,10 +4,8 @@ use mathlib.Core.List.{List, map, map-id}
 use native.Mathlib.Omega.{arith}
 use Rattle.laws.specs.Stretches.{same_bytes}
 use Rattle.laws.proofs.Stretches.{word_other, word-start, word-step, word-not, word_end}
+use Rattle.text.proofs.bytes.is_word.Invariants.{itself}
 use Rattle.text.proofs.bytes.is_word.Goals as goal
-
-abbrev itself : ℕ → ℕ
-itself b = b
 
 plain : (l w : List ℕ) → same_bytes (map itself l) w ≡ same_bytes l w
 plain l w = ap (λ (x : List ℕ). same_bytes x w) (map-id l)

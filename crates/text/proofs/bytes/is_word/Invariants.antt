@@ -1,9 +1,12 @@
-use Prim.Native.Nat.{◌+◌, ◌-◌, ◌≤◌}
+use Prim.Native.Nat.{ℕ, ◌+◌, ◌-◌, ◌≤◌}
 use mathlib.Core.Path.{◌≡◌}
 use mathlib.Core.List.{map}
 use lib.ListN.{length, drop}
 use Rattle.laws.specs.Stretches.{stretch, same_bytes}
 use Rattle.text.proofs.bytes.is_word.Given as goal
+
+abbrev pub itself : ℕ → ℕ
+itself b = b
 
 abbrev pub invariant-loop-i : goal.invariant-loop-i
 invariant-loop-i l =
