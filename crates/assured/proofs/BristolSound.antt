@@ -9,7 +9,7 @@ use Rattle.circuit.specs.Refusals.{yes}
 use Rattle.circuit.specs.Check.{check_circuit}
 use Rattle.circuit.specs.Circuits.{Circuit, filled, read_answer, node_words, output_words}
 use Rattle.bristol.specs.Bristol.{bristol, bristol_circuit}
-use Rattle.bristol.specs.Contracts.{Leaves}
+use Rattle.bristol.specs.Promises.{Leaves}
 use Rattle.bristol.proofs.Sound.{bristol-sound}
 use Rattle.assurance.specs.Assurance.{wires_out}
 

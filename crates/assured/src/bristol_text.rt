@@ -1,7 +1,7 @@
 // A Bristol text, read, ordered and run.
 ghost use Rattle.std.specs.Prelude.{length};
 ghost use Rattle.bristol.specs.Bristol.{bristol, bristol_circuit};
-ghost use Rattle.bristol.specs.Contracts.{Leaves};
+ghost use Rattle.bristol.specs.Promises.{Leaves};
 ghost use Rattle.assurance.specs.Carried.{Cleared};
 ghost use Rattle.assured.specs.Assured.{Assures, Refuses};
 

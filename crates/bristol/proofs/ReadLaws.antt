@@ -23,10 +23,10 @@ use Rattle.text.specs.Bytes.{is_ascii}
 use Rattle.text.specs.Lines.{kept_lines}
 use Rattle.bristol_rows.specs.declared.answers.Head.{Head}
 use Rattle.bristol_rows.specs.Header.{header}
-use Rattle.bristol_rows.specs.Contracts.{HeaderAt}
+use Rattle.bristol_rows.specs.Promises.{HeaderAt}
 use Rattle.bristol.specs.declared.answers.Rows.{Rows}
 use Rattle.bristol.specs.Bristol.{State, rows, outputs_from, input_node, input_slot, start, body, circuit, bristol_circuit, Left, leave, bristol}
-use Rattle.bristol.specs.Contracts.{Holds, RowsStand, RowsAre, OutputsStand, Built, Leaves}
+use Rattle.bristol.specs.Promises.{Holds, RowsStand, RowsAre, OutputsStand, Built, Leaves}
 
 -- ---- areas that are zero
 

@@ -27,10 +27,10 @@ use Rattle.text.specs.Lines.{kept_lines}
 use Rattle.bristol_rows.specs.declared.answers.Row.{Row}
 use Rattle.bristol_rows.specs.declared.answers.Row.TheVariants.{Refused as RowRefused, Alias as RowAlias, Cell as RowCell}
 use Rattle.bristol_rows.specs.Row.{wire_number, Gate, row}
-use Rattle.bristol_rows.specs.Contracts.{gate_of}
+use Rattle.bristol_rows.specs.Promises.{gate_of}
 use Rattle.bristol.specs.declared.answers.Step.{Step}
 use Rattle.bristol.specs.Bristol.{drive, store_cell, store, row_step, rows, output_of, outputs_from}
-use Rattle.bristol.specs.Contracts.{HoldsNodes, HoldsOutputs, Stands, StepIs, store_of, RowsStand, OutputsStand}
+use Rattle.bristol.specs.Promises.{HoldsNodes, HoldsOutputs, Stands, StepIs, store_of, RowsStand, OutputsStand}
 
 -- ---- records held
 

@@ -1,2 +1,2 @@
 pub mod Bristol
-pub mod Contracts
+pub mod Promises

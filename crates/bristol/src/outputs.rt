@@ -3,7 +3,7 @@ ghost use Rattle.std.specs.Prelude.{◌≡◌, List, [], ◌∷◌, ◌++◌, �
 ghost use Rattle.laws.specs.Areas.{capacity};
 ghost use Rattle.circuit.specs.declared.records.Output.{Output};
 ghost use Rattle.bristol.specs.Bristol.{output_of, outputs_from};
-ghost use Rattle.bristol.specs.Contracts.{HoldsOutputs, OutputsAre};
+ghost use Rattle.bristol.specs.Promises.{HoldsOutputs, OutputsAre};
 
 use crate::answers::Outputs;
 use bristol_rows::row::slot_wire;

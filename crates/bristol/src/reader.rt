@@ -3,7 +3,7 @@ ghost use Rattle.std.specs.Prelude.{◌≡◌, [], ◌++◌, ◌+◌, ◌-◌, �
 ghost use Rattle.laws.specs.Areas.{capacity, up_from};
 ghost use Rattle.text.specs.Lines.{kept_lines};
 ghost use Rattle.bristol.specs.Bristol.{input_node, input_slot, rows, body, circuit, leave, bristol};
-ghost use Rattle.bristol.specs.Contracts.{Zeros, HoldsNodes, Ready, RowsAre, ReadIs, Leaves};
+ghost use Rattle.bristol.specs.Promises.{Zeros, HoldsNodes, Ready, RowsAre, ReadIs, Leaves};
 
 use crate::answers::{Outputs, Rows};
 use crate::outputs::put_wires;

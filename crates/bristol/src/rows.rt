@@ -5,7 +5,7 @@ ghost use Rattle.laws.specs.Stretches.{stretch};
 ghost use Rattle.circuit.specs.declared.records.BoolNode.{BoolNode};
 ghost use Rattle.text.specs.Lines.{kept_lines};
 ghost use Rattle.bristol.specs.Bristol.{row_step, rows};
-ghost use Rattle.bristol.specs.Contracts.{HoldsNodes, StepIs, RowsAre};
+ghost use Rattle.bristol.specs.Promises.{HoldsNodes, StepIs, RowsAre};
 
 use crate::answers::{Rows, Step};
 use crate::store::store_row;

@@ -3,9 +3,9 @@ ghost use Rattle.std.specs.Prelude.{◌≡◌, List, ℕ, ◌+◌, ◌<◌, ◌^
 ghost use Rattle.laws.specs.Areas.{capacity};
 ghost use Rattle.circuit.specs.declared.records.BoolNode.{BoolNode};
 ghost use Rattle.circuit.specs.Records.{wire_word};
-ghost use Rattle.bristol_rows.specs.Contracts.{RowFits, gate_of};
+ghost use Rattle.bristol_rows.specs.Promises.{RowFits, gate_of};
 ghost use Rattle.bristol.specs.Bristol.{drive, store_cell};
-ghost use Rattle.bristol.specs.Contracts.{HoldsNodes, StepIs, store_of};
+ghost use Rattle.bristol.specs.Promises.{HoldsNodes, StepIs, store_of};
 
 use crate::answers::Step;
 use bristol_rows::answers::Row;

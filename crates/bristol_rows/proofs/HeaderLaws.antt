@@ -25,7 +25,7 @@ use Rattle.bristol_rows.specs.declared.answers.Header.{Header}
 use Rattle.bristol_rows.specs.declared.answers.Header.TheVariants.{Refused as HeaderRefused, Is as HeaderIsAt}
 use Rattle.bristol_rows.specs.Numbers.{or_refuse, each_number}
 use Rattle.bristol_rows.specs.Header.{grouped_wire_count, groups, group_lines, two_numbers, header}
-use Rattle.bristol_rows.specs.Contracts.{words_from, group_for, group_of, counts_of, HeadAt, HeadIs, HeaderIs}
+use Rattle.bristol_rows.specs.Promises.{words_from, group_for, group_of, counts_of, HeadAt, HeadIs, HeaderIs}
 
 -- ---- the group lines
 

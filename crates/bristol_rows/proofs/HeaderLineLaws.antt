@@ -22,7 +22,7 @@ use Rattle.bristol_rows.specs.declared.answers.Group.TheVariants.{Invalid as Gro
 use Rattle.bristol_rows.specs.declared.answers.Counts.{Counts}
 use Rattle.bristol_rows.specs.declared.answers.Counts.TheVariants.{Refused as CountsRefused, Are as CountsAre}
 use Rattle.bristol_rows.specs.Header.{grouped_wire_count}
-use Rattle.bristol_rows.specs.Contracts.{add_to, add_all, widths_of, group_for, group_of, counts_after, counts_of}
+use Rattle.bristol_rows.specs.Promises.{add_to, add_all, widths_of, group_for, group_of, counts_after, counts_of}
 
 -- ---- widths
 

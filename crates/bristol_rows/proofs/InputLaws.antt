@@ -21,7 +21,7 @@ use Rattle.text.specs.Numbers.{parse_usize, parse_each, number_of, and_then as t
 use Rattle.bristol_rows.specs.declared.answers.NextNumber.{NextNumber}
 use Rattle.bristol_rows.specs.declared.answers.Slots.{Slots}
 use Rattle.bristol_rows.specs.Row.{wire_number, drivers}
-use Rattle.bristol_rows.specs.Contracts.{words_from, First, no_slots, add_slot, add_input, add_inputs, Gathered}
+use Rattle.bristol_rows.specs.Promises.{words_from, First, no_slots, add_slot, add_input, add_inputs, Gathered}
 
 never : {A : Type 0} → ◌≡◌ {A = ℕ} 0 1 → A
 never z = absurd (omega arith)

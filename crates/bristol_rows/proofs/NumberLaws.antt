@@ -13,7 +13,7 @@ use Rattle.text.specs.Words.{next_word}
 use Rattle.text.specs.Numbers.{parse_usize, parse_each, number_of, and_then as then}
 use Rattle.text.proofs.WordLaws.{word_after, rest_over, rest_none, rest_next}
 use Rattle.bristol_rows.specs.declared.answers.NextNumber.{NextNumber}
-use Rattle.bristol_rows.specs.Contracts.{words_from, NextIs}
+use Rattle.bristol_rows.specs.Promises.{words_from, NextIs}
 
 pub next-is : (t : List ℕ) (from end : ℕ) (w : Word) (x : Number) → w ≡ next_word t from end → w.start + w.len ≤ end
     → number_of x ≡ parse_usize (stretch t w.start w.len) → NextIs t from end (record { len = w.len; number = x; next = w.start + w.len })

@@ -8,7 +8,7 @@ use borrow.Author.Tests.{eq-eqb, ne_eqb}
 use Rattle.circuit.specs.declared.refusals.Refusal.TheVariants.{WrongCount, Unknown}
 use Rattle.circuit.specs.Refusals.{no, yes, and_then}
 use Rattle.bristol_rows.specs.Operation.{is_alias, inverts, two_input_table, truth_table, Op, same, table, operation}
-use Rattle.bristol_rows.specs.Contracts.{table_try}
+use Rattle.bristol_rows.specs.Promises.{table_try}
 
 module _ (w : List ℕ) (n : ℕ) where
   pub table_invert : n ≡ 1 → true ≡ inverts w → yes (table 1) ≡ table_try (truth_table w n)

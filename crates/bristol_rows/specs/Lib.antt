@@ -2,4 +2,4 @@ pub mod Numbers
 pub mod Header
 pub mod Operation
 pub mod Row
-pub mod Contracts
+pub mod Promises

@@ -3,7 +3,7 @@ ghost use Rattle.std.specs.Prelude.{◌≡◌, ◌+◌, ◌≤◌, length};
 ghost use Rattle.laws.specs.Stretches.{stretch};
 ghost use Rattle.text.specs.Numbers.{parse_each};
 ghost use Rattle.bristol_rows.specs.Header.{group_lines};
-ghost use Rattle.bristol_rows.specs.Contracts.{words_from, add_to, widths_of, group_of, counts_after, counts_of, HeadIs, HeaderIs};
+ghost use Rattle.bristol_rows.specs.Promises.{words_from, add_to, widths_of, group_of, counts_after, counts_of, HeadIs, HeaderIs};
 
 use crate::answers::{Counts, Group, Head, Header, Sum, Widths};
 use crate::numbers::next_number;

@@ -1,6 +1,6 @@
 // The words of a line, read as numbers one after the other.
 ghost use Rattle.std.specs.Prelude.{◌≤◌, length};
-ghost use Rattle.bristol_rows.specs.Contracts.{NextIs};
+ghost use Rattle.bristol_rows.specs.Promises.{NextIs};
 
 use crate::answers::NextNumber;
 use text::numbers::parse_usize;

@@ -2,7 +2,7 @@
 ghost use Rattle.std.specs.Prelude.{◌≡◌, ◌+◌, ◌≤◌, length};
 ghost use Rattle.laws.specs.Stretches.{stretch};
 ghost use Rattle.bristol_rows.specs.Operation.{is_alias, inverts, two_input_table, truth_table, operation};
-ghost use Rattle.bristol_rows.specs.Contracts.{made_of, table_try};
+ghost use Rattle.bristol_rows.specs.Promises.{made_of, table_try};
 
 use crate::answers::Made;
 use circuit::refusals::Refusal;

@@ -5,7 +5,7 @@ ghost use Rattle.laws.specs.Stretches.{stretch};
 ghost use Rattle.circuit.specs.Records.{wire_of};
 ghost use Rattle.text.specs.Numbers.{number_of, parse_usize};
 ghost use Rattle.bristol_rows.specs.Row.{cell_node, row};
-ghost use Rattle.bristol_rows.specs.Contracts.{words_from, add_slot, add_input, InputsAre, drivers_of, CellIs, RowIs, gate_by, output_by, end_by, wires_by, invalid_arity, wrong_outputs};
+ghost use Rattle.bristol_rows.specs.Promises.{words_from, add_slot, add_input, InputsAre, drivers_of, CellIs, RowIs, gate_by, output_by, end_by, wires_by, invalid_arity, wrong_outputs};
 
 use crate::answers::{Inputs, Made, Row, Slots};
 use crate::numbers::next_number;

@@ -8,7 +8,7 @@ use Rattle.circuit.specs.Refusals.{Try}
 use Rattle.circuit.specs.Circuits.{Circuit}
 use Rattle.reading.specs.Areas.{Leaves}
 use Rattle.bristol.specs.Bristol as bristol
-use Rattle.bristol.specs.Contracts as bristolContracts
+use Rattle.bristol.specs.Promises as bristolContracts
 use Rattle.schedule.specs.declared.Ordered.{Ordered}
 use Rattle.schedule.specs.Call as schedule
 use Rattle.relay.specs.Answers.{read_number, read_nodes, read_outputs, ReadGives, JoinedCall, BristolCall, OrderGives, OrderCall}

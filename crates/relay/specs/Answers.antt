@@ -7,7 +7,7 @@ use Rattle.circuit.specs.Refusals.{number_of, Try}
 use Rattle.circuit.specs.Circuits.{Circuit, read_answer}
 use Rattle.reading.specs.Areas.{Leaves}
 use Rattle.bristol.specs.Bristol as bristol
-use Rattle.bristol.specs.Contracts as bristolContracts
+use Rattle.bristol.specs.Promises as bristolContracts
 use Rattle.schedule.specs.declared.Ordered.{Ordered}
 use Rattle.schedule.specs.Call as schedule
 use Rattle.runs.specs.Calls.{Result, Assigned}

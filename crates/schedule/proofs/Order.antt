@@ -1,7 +1,7 @@
 -- What the schedule does: it lists each cell once, after every cell that it reads, until those that are left read in a circle.
 -- Assumes nothing.
 use Prim.Native.Nat.{ℕ, zero, suc, ◌+◌, ◌≤◌}
-use mathlib.Core.Path.{◌≡◌, refl, sym, ap, ◌∙◌}
+use mathlib.Core.Path.{◌≡◌, refl, sym, ap, subst, ◌∙◌}
 use mathlib.Core.Logic.{◌⊎◌, inl, inr, ◌≢◌}
 use mathlib.Core.Bool.{Bool, true, false, cond}
 use mathlib.Core.List.{List, [], ◌∷◌, ◌++◌, append_assoc, append-nil}
@@ -32,7 +32,7 @@ best_in key b (k ∷ ks) = go (above (key k) (key b)) (best_in key (cond (above 
 pick_in : (key : ℕ → Key) (l : List ℕ) (p : ℕ) → pick key l ≡ some p → elem p l ≡ true
 unfolding pick
 pick_in key [] p e = let z : ◌≡◌ {A = ℕ} 0 1 = cc in absurd (omega arith)
-pick_in key (k ∷ ks) p e = let q : best key k ks ≡ p = cc in rw (← q) (best_in key k ks)
+pick_in key (k ∷ ks) p e = let q : best key k ks ≡ p = cc in subst (λ (x : ℕ). elem x (k ∷ ks) ≡ true) q (best_in key k ks)
 
 pick-none : (key : ℕ → Key) (w : ℕ) (l : List ℕ) → 1 ≤ w → pick key (take w l) ≡ none → l ≡ []
 unfolding pick

@@ -20,7 +20,7 @@ pub lower_inverter-requires : goal.lower_inverter-requires
 lower_inverter-requires c = record { kept = c.requires.kept; len_in_bounds = c.requires.len_in_bounds.0 }
 
 pub lower_chain-requires : goal.lower_chain-requires
-lower_chain-requires c = let it = (c.requires.kept, (c.requires.len_in_bounds, c.requires.1.1)) in record { kept = it.0; len_in_bounds = it.1; driven = it.2; first_wires = it.3 }
+lower_chain-requires c = record { kept = c.requires.kept; len_in_bounds = c.requires.len_in_bounds; driven = c.requires.driven; first_wires = c.requires.first_wires }
 
 pub returns-in-Buf : goal.returns-in-Buf
 returns-in-Buf c =

@@ -7,6 +7,7 @@ use Rattle.names.specs.Chains.{entries}
 use Rattle.reading.specs.Holding.{outcome}
 use Rattle.blif.proofs.Plans.{wire_small, put_constant, put_alias, put-cell}
 use Rattle.blif.proofs.gates.put_gate.Goals as goal
+use Rattle.blif.proofs.gates.put_gate.Goals.{then-p-eq1+else-p-eq2, else-p-eq1}
 
 pub returns-then-p-eq0 : goal.returns-then-p-eq0
 returns-then-p-eq0 c =
@@ -30,4 +31,4 @@ add_named-requires c =
     let f = wire_small c.args.p.second c.cell_node-node.result.second c.cell_node-node.ensures.second_is in record { kept = c.requires.kept; len_in_bounds = c.requires.len_in_bounds.0; first_bound = (omega (arith, e, c.struct_known-1.given), omega (arith, f, c.struct_known-1.given)) }
 
 pub returns : goal.returns
-returns c = record { kept_2 = c.add_named.ensures.kept_2; counts_after = c.add_named.ensures.counts_after ∙ put-cell c.args.p c.cell_node-node.result _ _ c.requires.len_in_bounds.1 c.cell_node-node.ensures c.if-p-eq0.false (⊎_elim (λ w i t. w.2.left t) (λ w i t. w.left i) c.if-p-eq1.branch) }
+returns c = record { kept_2 = c.add_named.ensures.kept_2; counts_after = c.add_named.ensures.counts_after ∙ put-cell c.args.p c.cell_node-node.result _ _ c.requires.len_in_bounds.1 c.cell_node-node.ensures c.if-p-eq0.false (λ i t. elim c.if-p-eq1.branch [ then-p-eq1+else-p-eq2 w ↦ w.if-p-eq2.false t | else-p-eq1 w ↦ w.if-p-eq1.false i ]) }

@@ -3,7 +3,7 @@ use mathlib.Core.Path.{refl, sym, ap, ◌∙◌, subst}
 use mathlib.Core.List.{[]}
 use native.Mathlib.Omega.{arith}
 use lib.ListN.{drop}
-use Rattle.bristol.specs.Contracts.{OutputsStand}
+use Rattle.bristol.specs.Promises.{OutputsStand}
 use Rattle.bristol.specs.Bristol.{outputs_from}
 use Rattle.laws.specs.Areas.{capacity}
 use Rattle.bristol.proofs.StoreLaws.{putting_start, put_undriven, put_full, put_on, put_end}

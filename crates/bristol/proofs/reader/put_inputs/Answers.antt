@@ -1,7 +1,7 @@
 use Prim.Native.Nat.{ℕ, ◌-◌, zero-le}
 use mathlib.Core.Path.{◌≡◌, refl, sym, subst}
 use borrow.Author.Rules.{rules}
-use Rattle.bristol.specs.Contracts.{HoldsNodes}
+use Rattle.bristol.specs.Promises.{HoldsNodes}
 use Rattle.bristol.specs.Bristol.{input_node}
 use Rattle.bristol.proofs.StoreLaws.{hold_node}
 use Rattle.laws.specs.Areas.{up_from}

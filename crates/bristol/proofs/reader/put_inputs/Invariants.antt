@@ -1,7 +1,7 @@
 use Prim.Native.Nat.{◌-◌, ◌≤◌}
 use mathlib.Core.Path.{◌≡◌}
 use lib.ListN.{length}
-use Rattle.bristol.specs.Contracts.{HoldsNodes}
+use Rattle.bristol.specs.Promises.{HoldsNodes}
 use Rattle.bristol.specs.Bristol.{input_node}
 use Rattle.laws.specs.Areas.{up_from}
 use Rattle.bristol.proofs.reader.put_inputs.Given as goal

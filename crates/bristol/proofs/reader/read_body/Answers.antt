@@ -3,7 +3,7 @@ use mathlib.Core.Path.{refl, ap, ◌∙◌, subst}
 use mathlib.Core.List.{List, []}
 use native.Mathlib.Omega.{arith}
 use lib.ListN.{length, drop, length-replicate}
-use Rattle.bristol.specs.Contracts.{OutputsAre}
+use Rattle.bristol.specs.Promises.{OutputsAre}
 use Rattle.bristol.specs.Bristol.{outputs_from, start}
 use Rattle.bristol.proofs.ReadLaws.{start_is, rows_told, body_refused, body_count, body-outputs, body_built}
 use Rattle.laws.specs.Areas.{capacity}

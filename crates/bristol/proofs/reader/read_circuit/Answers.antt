@@ -6,7 +6,7 @@ use lib.ListN.{length, take, drop, replicate, length-take}
 use Rattle.bristol.proofs.ReadLaws.{zeros_hold, leaves_refused, leaves_more, circuit_refused, circuit_wires, circuit_nodes, circuit-body}
 use Rattle.laws.specs.Areas.{capacity}
 use Rattle.laws.proofs.Sums.{take_zeros}
-use Rattle.bristol_rows.specs.Contracts.{HeaderIs}
+use Rattle.bristol_rows.specs.Promises.{HeaderIs}
 use Rattle.circuit.specs.Records.{encode_node, encode_output}
 use lib.Seq.{length-take-le}
 use Rattle.laws.proofs.Areas.{drop-replicate}

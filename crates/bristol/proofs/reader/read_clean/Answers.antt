@@ -1,7 +1,7 @@
 use Prim.Native.Nat.{ℕ}
 use mathlib.Core.Path.{ap, ◌∙◌, subst}
 use lib.ListN.{length, drop, replicate}
-use Rattle.bristol.specs.Contracts.{ReadIs}
+use Rattle.bristol.specs.Promises.{ReadIs}
 use Rattle.bristol.specs.Bristol.{body}
 use Rattle.circuit.specs.Circuits.{Circuit}
 use Rattle.bristol.proofs.ReadLaws.{leaves_refused, leaves-circuit}

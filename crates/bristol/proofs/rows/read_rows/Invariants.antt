@@ -2,7 +2,7 @@ use Prim.Native.Nat.{◌+◌, ◌-◌, ◌≤◌}
 use mathlib.Core.Path.{◌≡◌}
 use mathlib.Core.List.{List}
 use lib.ListN.{length}
-use Rattle.bristol.specs.Contracts.{HoldsNodes}
+use Rattle.bristol.specs.Promises.{HoldsNodes}
 use Rattle.bristol.proofs.StoreLaws.{Going}
 use Rattle.laws.specs.Areas.{capacity}
 use Rattle.circuit.specs.declared.records.BoolNode.{BoolNode}

@@ -2,7 +2,7 @@ use mathlib.Core.Path.{subst}
 use lib.ListN.{length}
 use Rattle.bristol.proofs.StoreLaws.{row_refused, row_alias, row-cell}
 use Rattle.laws.specs.Areas.{capacity}
-use Rattle.bristol_rows.specs.Contracts.{RowFits}
+use Rattle.bristol_rows.specs.Promises.{RowFits}
 use Rattle.bristol.proofs.store.store_row.Goals as goal
 
 pub store_alias-requires : goal.store_alias-requires

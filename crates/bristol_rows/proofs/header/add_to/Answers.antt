@@ -1,6 +1,6 @@
 use mathlib.Core.Path.{sym, ap, ◌∙◌}
 use native.Mathlib.Omega.{arith}
-use Rattle.bristol_rows.specs.Contracts.{add_to}
+use Rattle.bristol_rows.specs.Promises.{add_to}
 use Rattle.bristol_rows.proofs.HeaderLineLaws.{add_over, add_is}
 use Rattle.bristol_rows.specs.declared.answers.Sum.{Sum}
 use Rattle.bristol_rows.proofs.header.add_to.Goals as goal

@@ -1,5 +1,5 @@
 use native.Mathlib.Omega.{arith}
-use Rattle.bristol_rows.specs.Contracts.{words_from}
+use Rattle.bristol_rows.specs.Promises.{words_from}
 use Rattle.bristol_rows.proofs.HeaderLineLaws.{group_none, group_first, group_invalid, group_other, group_over, group_total}
 use Rattle.bristol_rows.proofs.NumberLaws.{each_none, each_invalid, each_value}
 use Rattle.text.specs.Numbers.{parse_each}

@@ -1,5 +1,5 @@
 use native.Mathlib.Omega.{arith}
-use Rattle.bristol_rows.specs.Contracts.{words_from}
+use Rattle.bristol_rows.specs.Promises.{words_from}
 use Rattle.bristol_rows.proofs.HeaderLineLaws.{first-none, first_bad, first-after}
 use Rattle.bristol_rows.proofs.NumberLaws.{each_none, each_invalid, each_value}
 use Rattle.text.specs.Numbers.{parse_each}

@@ -1,7 +1,7 @@
 use Prim.Native.Nat.{◌-◌, zero-le}
 use mathlib.Core.Path.{refl, ◌∙◌}
 use native.Mathlib.Omega.{arith}
-use Rattle.bristol_rows.specs.Contracts.{words_from}
+use Rattle.bristol_rows.specs.Promises.{words_from}
 use Rattle.bristol_rows.proofs.HeaderLineLaws.{widths_end, widths_invalid, widths_on}
 use Rattle.bristol_rows.proofs.NumberLaws.{each_none, each_invalid, each_value, each_over}
 use Rattle.text.specs.Numbers.{parse_each}

@@ -1,6 +1,6 @@
 use Prim.Native.Nat.{◌-◌, ◌≤◌}
 use mathlib.Core.Path.{◌≡◌}
-use Rattle.bristol_rows.specs.Contracts.{words_from, widths_of}
+use Rattle.bristol_rows.specs.Promises.{words_from, widths_of}
 use Rattle.bristol_rows.specs.declared.answers.Sum.TheVariants.{Is as SumIs}
 use Rattle.text.specs.Numbers.{parse_each}
 use Rattle.bristol_rows.proofs.header.read_widths.Given as goal

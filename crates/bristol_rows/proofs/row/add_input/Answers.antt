@@ -1,5 +1,5 @@
 use mathlib.Core.Path.{sym, ap, ◌∙◌}
-use Rattle.bristol_rows.specs.Contracts.{add_slot, add_input}
+use Rattle.bristol_rows.specs.Promises.{add_slot, add_input}
 use Rattle.text.specs.declared.numbers.Number.{Number}
 use Rattle.text.specs.Numbers.{number_of}
 use Rattle.bristol_rows.proofs.row.add_input.Goals as goal

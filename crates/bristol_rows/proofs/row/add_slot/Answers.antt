@@ -1,5 +1,5 @@
 use borrow.Author.Tests.{eq-eqb, ne_eqb}
-use Rattle.bristol_rows.specs.Contracts.{add_slot}
+use Rattle.bristol_rows.specs.Promises.{add_slot}
 use Rattle.bristol_rows.proofs.row.add_slot.Goals as goal
 
 pub returns-then-slot-eq0 : goal.returns-then-slot-eq0

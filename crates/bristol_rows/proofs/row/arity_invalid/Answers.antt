@@ -1,5 +1,5 @@
 use native.Mathlib.Omega.{arith}
-use Rattle.bristol_rows.specs.Contracts.{words_from}
+use Rattle.bristol_rows.specs.Promises.{words_from}
 use Rattle.bristol_rows.proofs.RowLaws.{arity_few, arity_number}
 use Rattle.text.proofs.WordLaws.{rest_count}
 use Rattle.bristol_rows.proofs.row.arity_invalid.Goals as goal

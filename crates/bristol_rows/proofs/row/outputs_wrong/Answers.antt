@@ -1,5 +1,5 @@
 use native.Mathlib.Omega.{arith}
-use Rattle.bristol_rows.specs.Contracts.{words_from}
+use Rattle.bristol_rows.specs.Promises.{words_from}
 use Rattle.bristol_rows.proofs.RowLaws.{outputs_few, outputs_width, outputs_count}
 use Rattle.text.proofs.WordLaws.{rest_count}
 use Rattle.bristol_rows.proofs.row.outputs_wrong.Goals as goal

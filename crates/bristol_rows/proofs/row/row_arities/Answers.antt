@@ -1,5 +1,5 @@
 use lib.ListN.{length}
-use Rattle.bristol_rows.specs.Contracts.{words_from}
+use Rattle.bristol_rows.specs.Promises.{words_from}
 use Rattle.bristol_rows.proofs.RowLaws.{row-outputs, row-wires, told}
 use Rattle.bristol_rows.proofs.row.row_arities.Goals as goal
 

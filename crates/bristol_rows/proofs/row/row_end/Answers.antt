@@ -1,5 +1,5 @@
 use native.Mathlib.Omega.{arith}
-use Rattle.bristol_rows.specs.Contracts.{words_from}
+use Rattle.bristol_rows.specs.Promises.{words_from}
 use Rattle.bristol_rows.proofs.RowLaws.{end_none, end_one, end_more, end_two}
 use Rattle.text.proofs.WordLaws.{rest_none, rest_next}
 use Rattle.bristol_rows.proofs.row.row_end.Goals as goal

@@ -1,7 +1,7 @@
 use mathlib.Core.Path.{subst}
 use native.Mathlib.Omega.{arith}
 use lib.ListN.{length}
-use Rattle.bristol_rows.specs.Contracts.{words_from, Gathered, InputsAre}
+use Rattle.bristol_rows.specs.Promises.{words_from, Gathered, InputsAre}
 use Rattle.bristol_rows.proofs.RowLaws.{wires_missing, wires_end}
 use Rattle.bristol_rows.proofs.row.row_wires.Goals as goal
 

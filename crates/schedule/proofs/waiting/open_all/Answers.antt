@@ -18,7 +18,7 @@ pub loop-done-smaller : goal.loop-done-smaller
 loop-done-smaller c = omega arith
 
 pub loop-done-preserved : goal.loop-done-preserved
-loop-done-preserved c = (omega arith, opening_more _ _ _ _ _ _ c.loop-done.invariant.1 c.loop-done-test.true c.before.«open».ensures.0, c.before.«open».ensures.1)
+loop-done-preserved c = (omega arith, opening_more _ _ _ _ _ _ c.loop-done.invariant.1 c.loop-done-test.true c.open-cells.ensures.0, c.open-cells.ensures.1)
 
 pub shape_of-area : goal.shape_of-area
 shape_of-area c = c.loop-done.invariant.1.size
