@@ -7,7 +7,7 @@ use Rattle.circuit.specs.Refusals.{number_of, Try}
 use Rattle.circuit.specs.Circuits.{Circuit, read_answer}
 use Rattle.reading.specs.Areas.{Leaves}
 use Rattle.bristol.specs.Bristol as bristol
-use Rattle.bristol.specs.Promises as bristolContracts
+use Rattle.bristol.specs.Promises as bristol_promises
 use Rattle.schedule.specs.declared.Ordered.{Ordered}
 use Rattle.schedule.specs.Call as schedule
 use Rattle.runs.specs.Calls.{Result, Assigned}
@@ -34,14 +34,14 @@ pub record ReadGives (read : Read) (number nodes outputs : ℕ) : Type 0 where
   pub outputs_are : outputs ≡ read_outputs read
 
 -- a reader of joined texts, given by what a text means in areas of so many bytes and words: the number, the counts, every area
-pub record JoinedCall (means : List ℕ → ℕ → ℕ → ℕ → ℕ → Try Circuit) (text : List ℕ) (j n m o : ℕ) (number node-count output-count : ℕ) (joined nodes names outputs : List ℕ) : Type 0 where
-  pub gives : ReadGives (read_answer (means text j n m o)) number node-count output-count
+pub record JoinedCall (means : List ℕ → ℕ → ℕ → ℕ → ℕ → Try Circuit) (text : List ℕ) (j n m o : ℕ) (number node_count output_count : ℕ) (joined nodes names outputs : List ℕ) : Type 0 where
+  pub gives : ReadGives (read_answer (means text j n m o)) number node_count output_count
   pub leaves : Leaves text (means text j n m o) j n m o (read_answer (means text j n m o)) joined nodes names outputs
 
 -- the reader of Bristol texts, whose definition gives the answer and the areas
-pub record BristolCall (left : bristol.Left) (number node-count output-count : ℕ) (nodes outputs wires : List ℕ) : Type 0 where
-  pub gives : ReadGives left.answer number node-count output-count
-  pub leaves : bristolContracts.Leaves left left.answer nodes outputs wires
+pub record BristolCall (left : bristol.Left) (number node_count output_count : ℕ) (nodes outputs wires : List ℕ) : Type 0 where
+  pub gives : ReadGives left.answer number node_count output_count
+  pub leaves : bristol_promises.Leaves left left.answer nodes outputs wires
 
 -- ---- the schedule
 
@@ -55,8 +55,8 @@ pub record OrderCall (left : schedule.Left) (number cells : ℕ) (ready successo
 
 -- ---- the runs
 
-abbrev pub result : ℕ → ℕ → List ℕ → List ℕ → Result
-result number count values answers = record { number = number; count = count; store = values; outputs = answers }
+abbrev pub result_of : ℕ → ℕ → List ℕ → List ℕ → Result
+result_of number count values answers = record { number = number; count = count; store = values; outputs = answers }
 
 abbrev pub assigned : ℕ → ℕ → List ℕ → Assigned
 assigned number count assignment = record { number = number; count = count; assignment = assignment }

@@ -2,7 +2,7 @@
 ghost use Rattle.std.specs.Prelude.{◌≡◌, List, ℕ};
 ghost use Rattle.circuit.specs.Refusals.{checked_number};
 ghost use Rattle.runs.specs.Calls.{ran_result, evaluated_result, numbered_result};
-ghost use Rattle.relay.specs.Answers.{ReadGives, OrderGives, result, assigned};
+ghost use Rattle.relay.specs.Answers.{ReadGives, OrderGives, result_of, assigned};
 
 use circuit::refusals::{Checked, Read, refusal_number};
 use runs::evaluate::Evaluated;
@@ -11,7 +11,7 @@ use runs::run::Ran;
 use schedule::Ordered;
 
 pub fn answer_checked(checked: Checked) -> usize
-    ensures* { λ r. ⌜ r ≡ checked_number checked ⌝ }
+    ensures { result ≡ checked_number checked }
 {
     match checked {
         Checked::Sound => 0,
@@ -20,7 +20,7 @@ pub fn answer_checked(checked: Checked) -> usize
 }
 
 pub fn answer_read(read: Read, node_count: &mut usize, output_count: &mut usize) -> usize
-    ensures* { λ r. ⌜ ReadGives read r node_count.new output_count.new ⌝ }
+    ensures { ReadGives read result node_count.new output_count.new }
 {
     match read {
         Read::Circuit { nodes, outputs } => {
@@ -37,7 +37,7 @@ pub fn answer_read(read: Read, node_count: &mut usize, output_count: &mut usize)
 }
 
 pub fn answer_ordered(ordered: Ordered, cell_count: &mut usize) -> usize
-    ensures* { λ r. ⌜ OrderGives ordered r cell_count.new ⌝ }
+    ensures { OrderGives ordered result cell_count.new }
 {
     match ordered {
         Ordered::Cells(n) => {
@@ -52,7 +52,7 @@ pub fn answer_ordered(ordered: Ordered, cell_count: &mut usize) -> usize
 }
 
 pub fn answer_evaluated(evaluated: Evaluated, output_count: &mut usize) -> usize
-    ensures* { λ r. ⌜ ((values answers : List ℕ) → result r output_count.new values answers ≡ evaluated_result evaluated values answers) ⌝ }
+    ensures { (values answers : List ℕ) → result_of result output_count.new values answers ≡ evaluated_result evaluated values answers }
 {
     match evaluated {
         Evaluated::Outputs(n) => {
@@ -67,7 +67,7 @@ pub fn answer_evaluated(evaluated: Evaluated, output_count: &mut usize) -> usize
 }
 
 pub fn answer_ran(ran: Ran, cell_count: &mut usize) -> usize
-    ensures* { λ r. ⌜ ((values answers : List ℕ) → result r cell_count.new values answers ≡ ran_result ran values answers) ⌝ }
+    ensures { (values answers : List ℕ) → result_of result cell_count.new values answers ≡ ran_result ran values answers }
 {
     match ran {
         Ran::Cells(n) => {
@@ -82,7 +82,7 @@ pub fn answer_ran(ran: Ran, cell_count: &mut usize) -> usize
 }
 
 pub fn answer_numbered(numbered: Numbered, input_count: &mut usize) -> usize
-    ensures* { λ r. ⌜ ((assignment : List ℕ) → assigned r input_count.new assignment ≡ numbered_result numbered assignment) ⌝ }
+    ensures { (assignment : List ℕ) → assigned result input_count.new assignment ≡ numbered_result numbered assignment }
 {
     match numbered {
         Numbered::Inputs(n) => {

@@ -1,7 +1,7 @@
 // What a circuit gives.
 ghost use Rattle.std.specs.Prelude.{◌≡◌};
 ghost use Rattle.runs.specs.Calls.{evaluate_call, run_call, exhaustive_call};
-ghost use Rattle.relay.specs.Answers.{result, assigned};
+ghost use Rattle.relay.specs.Answers.{result_of, assigned};
 
 use crate::answers::{answer_evaluated, answer_numbered, answer_ran};
 use runs::evaluate::evaluate;
@@ -18,7 +18,7 @@ pub extern "C" fn relay_evaluate(
     answers: &mut [u8],
     output_count: &mut usize,
 ) -> usize
-    ensures* { λ r. ⌜ result r output_count.new values.new answers.new ≡ evaluate_call nodes.now outputs.now assignment.now values.old answers.old ⌝ }
+    ensures { result_of result output_count.new values.new answers.new ≡ evaluate_call nodes.now outputs.now assignment.now values.old answers.old }
 {
     let evaluated = evaluate(nodes, outputs, assignment, values, answers);
     answer_evaluated(evaluated, output_count)
@@ -35,7 +35,7 @@ pub extern "C" fn relay_run(
     answers: &mut [u8],
     cell_count: &mut usize,
 ) -> usize
-    ensures* { λ r. ⌜ result r cell_count.new values.new answers.new ≡ run_call nodes.now outputs.now order.now assignment.now values.old answers.old ⌝ }
+    ensures { result_of result cell_count.new values.new answers.new ≡ run_call nodes.now outputs.now order.now assignment.now values.old answers.old }
 {
     let ran = run(nodes, outputs, order, assignment, values, answers);
     answer_ran(ran, cell_count)
@@ -50,7 +50,7 @@ pub extern "C" fn relay_exhaustive_inputs(
     assignment: &mut [u8],
     input_count: &mut usize,
 ) -> usize
-    ensures* { λ r. ⌜ assigned r input_count.new assignment.new ≡ exhaustive_call nodes.now outputs.now number assignment.old ⌝ }
+    ensures { assigned result input_count.new assignment.new ≡ exhaustive_call nodes.now outputs.now number assignment.old }
 {
     let numbered = exhaustive_inputs(nodes, outputs, number, assignment);
     answer_numbered(numbered, input_count)

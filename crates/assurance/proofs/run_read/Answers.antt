@@ -11,10 +11,10 @@ pub returns-then-outputs-output_count : goal.returns-then-outputs-output_count
 returns-then-outputs-output_count c = record { carries = λ a b. absurd (omega (arith, b, c.if-outputs-output_count.true)); refuses_read = record { few_nodes = λ h. c.refuse_both-then-outputs-output_count.ensures; few_outputs = λ h. c.refuse_both-then-outputs-output_count.ensures; unordered = λ a b. absurd (omega (arith, b, c.if-outputs-output_count.true)) }; cleared = record { ready-is = c.refuse_both-then-outputs-output_count.ensures.ready-is; successors_are = c.refuse_both-then-outputs-output_count.ensures.successors_are; values_are = c.refuse_both-then-outputs-output_count.ensures.run.values_are } }
 
 pub slice_bounds-order_and_run-end : goal.slice_bounds-order_and_run-end
-slice_bounds-order_and_run-end c = sym (length-take-le (c.args.node-count * 9) c.args.nodes.now (omega (arith, c.if-nodes-node_count.false)))
+slice_bounds-order_and_run-end c = sym (length-take-le (c.args.node_count * 9) c.args.nodes.now (omega (arith, c.if-nodes-node_count.false)))
 
 pub slice_bounds-order_and_run-end-2 : goal.slice_bounds-order_and_run-end-2
-slice_bounds-order_and_run-end-2 c = sym (length-take-le (c.args.output-count * 5) c.args.outputs.now (omega (arith, c.if-outputs-output_count.false)))
+slice_bounds-order_and_run-end-2 c = sym (length-take-le (c.args.output_count * 5) c.args.outputs.now (omega (arith, c.if-outputs-output_count.false)))
 
 pub returns : goal.returns
 returns c = record { carries = λ a b. c.order_and_run.ensures.carries; refuses_read = record { few_nodes = λ h. absurd (omega (arith, h, c.if-nodes-node_count.false)); few_outputs = λ h. absurd (omega (arith, h, c.if-outputs-output_count.false)); unordered = λ a b. c.order_and_run.ensures.refuses_unordered }; cleared = c.order_and_run.ensures.cleared }
