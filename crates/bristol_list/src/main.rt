@@ -4,25 +4,25 @@
 
 use bristol::reader::parse_bristol;
 use circuit::refusals::Refusal;
-use libc::STDIN_FILENO;
-use printing::rooms::{node_room, output_room, wire_room};
+use printing::input::read_full;
+use printing::rooms::{node_room, output_room, wire_room, text_room};
 use printing::{print_read, print_refused};
+use std::io;
 
 // The listing of a text.
-fn list(text: &[u8]) {
+fn list(rt: &impl Print, text: &[u8]) -> io::Result<()> {
     let mut nodes = node_room();
     let mut outputs = output_room();
     let mut wires = wire_room();
     let read = parse_bristol(text, &mut nodes, &mut outputs, &mut wires);
-    print_read(read, b"", &nodes, &outputs);
+    print_read(rt, read, b"", &nodes, &outputs)
 }
 
-fn main() {
-    let mut text = io::large_buffer();
-    let n = io::read_full(STDIN_FILENO, &mut text);
+fn main(rt: HostRuntime) -> io::Result<()> {
+    let mut text = text_room();
+    let n = read_full(&mut rt.reader(), &mut text)?;
     if 32768 < n {
-        print_refused(Refusal::TextTooLong);
-        return;
+        return print_refused(&rt, Refusal::TextTooLong);
     }
-    list(&text[..n]);
+    list(&rt, &text[..n])
 }

@@ -5,7 +5,11 @@
 
 ghost use Rattle.std.specs.Prelude.{◌≤◌, ◌<◌, length};
 
-use libc::STDOUT_FILENO;
+use printing::input::read_full;
+use printing::rooms::text_room;
+use std::fs::File;
+use std::io;
+use std::rt::Files;
 use text::joining::logical_lines;
 use text::numbers::wide;
 
@@ -20,7 +24,7 @@ fn joins_to(text: &[u8], joined: &mut [u8], answer: &[u8]) -> bool
     requires { length text.now < length joined.old }
 {
     let n = logical_lines(text, joined);
-    check::same(&joined[..n], answer)
+    &joined[..n] == answer
 }
 
 fn replay_one(recorded: &[u8], at: usize) -> Replayed
@@ -50,14 +54,14 @@ fn replay_one(recorded: &[u8], at: usize) -> Replayed
     Replayed { same, next }
 }
 
-fn replay(recorded: &[u8]) {
+fn replay(rt: &impl Print, recorded: &[u8]) -> io::Result<()> {
     let mut at = 0;
     let mut records: u64 = 0;
     let mut same: u64 = 0;
     while at < recorded.len() {
         let r = replay_one(recorded, at);
         if r.next <= at {
-            return;
+            return Ok(());
         }
         records += 1;
         if r.same {
@@ -65,19 +69,16 @@ fn replay(recorded: &[u8]) {
         }
         at = r.next;
     }
-    io::print_decimal(STDOUT_FILENO, records);
-    io::write_all(STDOUT_FILENO, b" records, ");
-    io::print_decimal(STDOUT_FILENO, same);
-    io::write_all(STDOUT_FILENO, b" the same\n");
+    println!(rt; "{records} records, {same} the same")
 }
 
-fn main() {
-    let fd = os::open_read(b"joined_lines");
-    if fd < 0 {
-        return;
-    }
-    let mut recorded = io::large_buffer();
-    let n = io::read_full(fd, &mut recorded);
-    replay(&recorded[..n]);
-    libc::close(fd);
+fn replay_file(rt: &(impl Files + Print)) -> io::Result<()> {
+    let mut file = File::open(rt, "joined_lines")?;
+    let mut recorded = text_room();
+    let n = read_full(&mut file, &mut recorded)?;
+    replay(rt, &recorded[..n])
+}
+
+fn main(rt: HostRuntime) -> io::Result<()> {
+    replay_file(&rt)
 }

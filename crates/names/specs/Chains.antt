@@ -1,6 +1,6 @@
 -- The name table: the entries that the records of the name area hold, and the chains that lead to them.
 -- Assumes nothing.
-use Rattle.std.specs.Prelude.{◌≡◌, ℕ, zero, suc, ◌+◌, ◌-◌, ◌*◌, ◌/◌, ◌%◌, ◌^◌, ◌<◌, ◌≤◌, Bool, cond, ◌&&◌, List, [], ◌∷◌, length, set, ◌==◌, ◌≢◌, slice_index, slice_set}
+use Rattle.std.specs.Prelude.{◌≡◌, ℕ, zero, suc, ◌+◌, ◌-◌, ◌*◌, ◌/◌, ◌%◌, ◌^◌, ◌<◌, ◌≤◌, Bool, cond, ◌&&◌, List, [], ◌∷◌, length, ◌==◌, ◌≢◌, slice_index, slice_set}
 use Rattle.names.specs.Names.{Entry, name_of}
 
 -- a 32-bit wrapping sum of bytes, on top of s

@@ -7,6 +7,7 @@ ghost use Rattle.node_slices.specs.Slices.{slice_fault};
 
 use circuit::records::{BoolNode, BoolWire, Name, NodeNumber, WireNumber};
 use circuit::refusals::{Checked, refusal_number};
+use std::io;
 
 // The array is lent as a slice: its callers pass it by value.
 fn check_array(nodes: [BoolNode; 5], outputs: &[usize]) -> Checked
@@ -42,25 +43,21 @@ fn cell(k: usize, count: usize, table: usize, a: usize, b: usize) -> BoolNode {
     }
 }
 
-fn show(answer: Checked) {
+fn show(rt: &impl Print, answer: Checked) -> io::Result<()> {
     match answer {
-        Checked::Sound => {
-            io::write_all(1, b"0\n");
-        }
+        Checked::Sound => println!(rt; "0"),
         Checked::Refused(e) => {
             let number = refusal_number(e);
-            if number == 15 {
-                io::write_all(1, b"15\n");
-            } else if number == 16 {
-                io::write_all(1, b"16\n");
+            if number == 15 || number == 16 {
+                println!(rt; "{number}")
             } else {
-                io::write_all(1, b"another\n");
+                println!(rt; "another")
             }
         }
     }
 }
 
-fn main() {
+fn main(rt: HostRuntime) -> io::Result<()> {
     let outputs = [3, 4, 0, 0, 6];
     let mut nodes = [input(0); 5];
     nodes[1] = input(1);
@@ -68,26 +65,27 @@ fn main() {
     nodes[3] = cell(3, 1, 1, 0, 9);
     nodes[4] = cell(4, 2, 8, 2, 3);
     // the listing's circuit: the second place of a cell of one wire is not looked at
-    show(check_array(nodes, &outputs));
+    show(&rt, check_array(nodes, &outputs))?;
     // an output area that is no whole number of records
-    show(check_array(nodes, &outputs[..4]));
+    show(&rt, check_array(nodes, &outputs[..4]))?;
     // no outputs
-    show(check_array(nodes, &outputs[..0]));
+    show(&rt, check_array(nodes, &outputs[..0]))?;
     // a last cell that reads itself, then one that reads past the nodes
     nodes[4] = cell(4, 2, 8, 2, 4);
-    show(check_array(nodes, &outputs));
+    show(&rt, check_array(nodes, &outputs))?;
     nodes[4] = cell(4, 2, 8, 2, 5);
-    show(check_array(nodes, &outputs));
+    show(&rt, check_array(nodes, &outputs))?;
     // a forward read before that
     nodes[2] = cell(2, 2, 4, 3, 1);
-    show(check_array(nodes, &outputs));
+    show(&rt, check_array(nodes, &outputs))?;
     // a table with a bit above its two entries before that
     nodes[1] = cell(1, 1, 4, 0, 0);
-    show(check_array(nodes, &outputs));
+    show(&rt, check_array(nodes, &outputs))?;
     // an output wire past the nodes
     nodes[1] = input(1);
     nodes[2] = input(2);
     nodes[4] = input(4);
     let past = [3, 4, 0, 0, 7];
-    show(check_array(nodes, &past));
+    show(&rt, check_array(nodes, &past))?;
+    Ok(())
 }

@@ -61,3 +61,10 @@ pub fn line_room() -> [u8; 33024]
 {
     [0; 33024]
 }
+
+// Room for what a program reads.
+pub fn text_room() -> [u8; 65536]
+    ensures { 65536 ≡ length result }
+{
+    [0; 65536]
+}

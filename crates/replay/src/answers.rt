@@ -14,7 +14,7 @@ pub fn same_refused(e: Refusal, answer: &[u8]) -> bool {
     let mut line = [0u8; 128];
     let n = refusal_number(e);
     let size = put_refused(&mut line, n);
-    check::same(&line[..size], answer)
+    &line[..size] == answer
 }
 
 // Whether the answer is the listing.
@@ -36,7 +36,7 @@ pub fn same_lines(
             return false;
         }
         let end = at + size;
-        if !check::same(&line[..size], &answer[at..end]) {
+        if line[..size] != answer[at..end] {
             return false;
         }
         at = end;

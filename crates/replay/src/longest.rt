@@ -3,8 +3,8 @@ ghost use Rattle.std.specs.Prelude.{◌≡◌, ◌≤◌, length};
 
 use blif::read::parse_blif;
 use circuit::refusals::{Read, refusal_number};
-use libc::STDOUT_FILENO;
 use printing::rooms::{name_room, node_room, output_room};
+use std::io;
 
 fn spaces() -> [u8; 1048577]
     ensures { 1048577 ≡ length result }
@@ -34,12 +34,8 @@ fn spaces_number(size: usize) -> usize
     }
 }
 
-pub fn print_longest() {
+pub fn print_longest(rt: &impl Print) -> io::Result<()> {
     let longest = spaces_number(1048576);
     let longer = spaces_number(1048577);
-    io::write_all(STDOUT_FILENO, b"1048576 spaces: ");
-    io::print_decimal(STDOUT_FILENO, longest as u64);
-    io::write_all(STDOUT_FILENO, b", one more: ");
-    io::print_decimal(STDOUT_FILENO, longer as u64);
-    io::write_all(STDOUT_FILENO, b"\n");
+    println!(rt; "1048576 spaces: {longest}, one more: {longer}")
 }

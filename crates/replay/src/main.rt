@@ -7,7 +7,11 @@ ghost use Rattle.std.specs.Prelude.{◌+◌, ◌≤◌, ◌<◌, length};
 
 use crate::formats::{lists_bench, lists_blif, lists_bristol};
 use crate::longest::print_longest;
-use libc::STDOUT_FILENO;
+use printing::input::read_full;
+use printing::rooms::text_room;
+use std::fs::File;
+use std::io;
+use std::rt::Files;
 use text::numbers::wide;
 
 mod answers;
@@ -97,28 +101,21 @@ fn replay(format: Format, recorded: &[u8]) -> Counts {
     Counts { records, same }
 }
 
-fn replay_file(format: Format, name: &[u8]) {
-    let fd = os::open_read(name);
-    if fd < 0 {
-        return;
-    }
-    let mut recorded = io::large_buffer();
-    let n = io::read_full(fd, &mut recorded);
+fn replay_file(rt: &(impl Files + Print), format: Format, name: &str) -> io::Result<()> {
+    let mut file = File::open(rt, name)?;
+    let mut recorded = text_room();
+    let n = read_full(&mut file, &mut recorded)?;
     let counts = replay(format, &recorded[..n]);
-    libc::close(fd);
-    io::write_all(STDOUT_FILENO, name);
-    io::write_all(STDOUT_FILENO, b": ");
-    io::print_decimal(STDOUT_FILENO, counts.records);
-    io::write_all(STDOUT_FILENO, b" records, ");
-    io::print_decimal(STDOUT_FILENO, counts.same);
-    io::write_all(STDOUT_FILENO, b" the same\n");
+    let records = counts.records;
+    let same = counts.same;
+    println!(rt; "{name}: {records} records, {same} the same")
 }
 
-fn main() {
-    replay_file(Format::Blif, b"blif");
-    replay_file(Format::Bench, b"bench");
-    replay_file(Format::Bristol, b"bristol");
-    replay_file(Format::Blif, b"blif_of_tools");
-    replay_file(Format::Bench, b"bench_of_tools");
-    print_longest();
+fn main(rt: HostRuntime) -> io::Result<()> {
+    replay_file(&rt, Format::Blif, "blif")?;
+    replay_file(&rt, Format::Bench, "bench")?;
+    replay_file(&rt, Format::Bristol, "bristol")?;
+    replay_file(&rt, Format::Blif, "blif_of_tools")?;
+    replay_file(&rt, Format::Bench, "bench_of_tools")?;
+    print_longest(&rt)
 }

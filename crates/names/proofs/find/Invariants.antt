@@ -1,4 +1,3 @@
-use Rattle.std.proofs.Common.{◌-◌}
 use Rattle.laws.specs.Stretches.{stretch}
 use Rattle.names.proofs.ChainLaws.{ahead, Searched}
 use Rattle.names.proofs.find.Given as goal

@@ -4,16 +4,16 @@ use Rattle.printing.proofs.Bounds.{read_inside, front_size, front_within}
 use Rattle.printing.proofs.print_read.Goals as goal
 
 pub overflow_mul-node_words : goal.overflow_mul-node_words
-overflow_mul-node_words c = omega (arith, read_inside _ _ _ _ _ _ c.requires c.in-Circuit.is)
+overflow_mul-node_words g c = omega (arith, read_inside _ _ _ _ _ _ c.requires c.in-Circuit.is)
 
 pub overflow_mul-output_words : goal.overflow_mul-output_words
-overflow_mul-output_words c = omega (arith, read_inside _ _ _ _ _ _ c.requires c.in-Circuit.is)
+overflow_mul-output_words g c = omega (arith, read_inside _ _ _ _ _ _ c.requires c.in-Circuit.is)
 
 pub slice_bounds-print_circuit-end : goal.slice_bounds-print_circuit-end
-slice_bounds-print_circuit-end c = front_size _ _ (read_inside _ _ _ _ _ _ c.requires c.in-Circuit.is).node-words
+slice_bounds-print_circuit-end g c = front_size _ _ (read_inside _ _ _ _ _ _ c.requires c.in-Circuit.is).node-words
 
 pub slice_bounds-print_circuit-end-in-Circuit : goal.slice_bounds-print_circuit-end-in-Circuit
-slice_bounds-print_circuit-end-in-Circuit c = front_size _ _ (read_inside _ _ _ _ _ _ c.requires c.in-Circuit.is).output-words
+slice_bounds-print_circuit-end-in-Circuit g c = front_size _ _ (read_inside _ _ _ _ _ _ c.requires c.in-Circuit.is).output-words
 
 pub print_circuit-requires : goal.print_circuit-requires
-print_circuit-requires c = (c.requires.text_size, front_within (c.in-Circuit.n * 9) c.args.nodes.now 9216 c.requires.node_size)
+print_circuit-requires g c = (c.requires.text_size, front_within (c.in-Circuit.n * 9) c.args.nodes.now 9216 c.requires.node_size)

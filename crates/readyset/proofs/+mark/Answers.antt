@@ -1,4 +1,4 @@
-use mathlib.Core.Logic.{⊎_elim, inl, inr}
+use mathlib.Core.Logic.{inl, inr}
 use native.Mathlib.Omega.{arith}
 use Rattle.readyset.proofs.Levels.{mark_on, mark_off, mark_single, mark_rest, part-start, part_room, part_levels, put_length}
 use Rattle.readyset.proofs.+mark.Goals as goal

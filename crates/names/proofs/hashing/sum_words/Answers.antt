@@ -1,4 +1,4 @@
-use Rattle.std.proofs.Common.{◌≡◌, ◌-◌, ◌/◌, ap, ◌∙◌, arith}
+use Rattle.std.proofs.Common.{◌≡◌, ◌/◌, ap, ◌∙◌, arith}
 use Rattle.laws.proofs.Stretches.{rest_start}
 use Rattle.names.specs.Chains.{wrapping_sum, sum_in, mix_in, mixed}
 use Rattle.names.proofs.Hashes.{sum_step, mix_step}

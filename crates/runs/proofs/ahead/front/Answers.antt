@@ -1,5 +1,4 @@
 use mathlib.Core.Path.{refl}
-use Prim.Native.Nat.{◌-◌}
 use Rattle.runs.proofs.ahead.front.Goals as goal
 
 pub loop-i-init : goal.loop-i-init

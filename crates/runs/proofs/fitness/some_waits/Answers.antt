@@ -1,5 +1,5 @@
 use mathlib.Core.Path.{refl, sym, ap, ◌∙◌}
-use Prim.Native.Nat.{◌-◌, zero-le}
+use Prim.Native.Nat.{zero-le}
 use native.Mathlib.Omega.{arith}
 use Rattle.laws.proofs.Lists.{some_here, some-later, some_past, none_at}
 use Rattle.circuit.specs.Records.{wires_of, no_wire}

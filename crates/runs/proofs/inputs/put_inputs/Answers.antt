@@ -1,6 +1,5 @@
 use mathlib.Core.Path.{refl}
 use mathlib.Core.Bool.{false≢true}
-use Prim.Native.Nat.{◌-◌}
 use native.Mathlib.Omega.{arith}
 use Rattle.runs.proofs.Placing.{put_start, put_next, put_end, put_whole, put_short}
 use Rattle.runs.proofs.inputs.put_inputs.Goals as goal

@@ -1,4 +1,3 @@
-use Prim.Native.Nat.{◌-◌}
 use native.Mathlib.Omega.{arith}
 use Rattle.runs.proofs.Numbering.{pass_start, pass_next, pass_stops, pass_ends}
 use Rattle.runs.proofs.numbered.sound_inputs.Goals as goal

@@ -1,4 +1,4 @@
-use Prim.Native.Nat.{◌-◌, ◌<◌, zero-le}
+use Prim.Native.Nat.{◌<◌, zero-le}
 use native.Mathlib.Omega.{arith}
 use Rattle.runs.proofs.Marks.{marks_none, marks_top, top_next}
 use Rattle.runs.proofs.stretches.none_waits.Goals as goal

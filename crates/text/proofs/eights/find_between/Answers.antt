@@ -1,4 +1,3 @@
-use Prim.Native.Nat.{◌-◌}
 use native.Mathlib.Omega.{arith}
 use Rattle.laws.proofs.Stretches.{run_end}
 use Rattle.text.specs.Eights.{outside}

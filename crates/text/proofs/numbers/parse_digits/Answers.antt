@@ -1,4 +1,4 @@
-use Prim.Native.Nat.{◌+◌, ◌-◌, zero-le}
+use Prim.Native.Nat.{◌+◌, zero-le}
 use mathlib.Core.Path.{◌∙◌}
 use native.Mathlib.Omega.{arith}
 use Rattle.text.proofs.NumberLaws.{digit_step, digit_low, digit_high, digit_over, digits_end, digits-none, digits-some}
