@@ -22,7 +22,7 @@ fn main() {
     println!("cargo::rerun-if-changed={}", archive.display());
     if !archive.is_file() {
         println!(
-            "cargo::error=no librelay.a in {}: run `rt staticlib relay` at the top of the repository, or set RELAY_STATICLIB to the folder that has it",
+            "cargo::error=no librelay.a in {}: run `tools/build relay` at the top of the repository, or set RELAY_STATICLIB to the folder that has it",
             folder.display()
         );
         return;

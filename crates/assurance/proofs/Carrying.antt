@@ -17,7 +17,6 @@ use Rattle.schedule.specs.declared.Ordered.TheVariants.{Cells, Refused as Unorde
 use Rattle.schedule.specs.Call.{Left, leaves, schedule_call}
 use Rattle.runs.specs.declared.run.Ran.{Ran}
 use Rattle.runs.specs.declared.run.Ran.TheVariants.{Cells as RanCells, Refused as NotRun}
-use Rattle.runs.specs.Values.{evaluated}
 use Rattle.runs.specs.Runs.{wrong_assignment}
 use Rattle.runs.specs.Calls.{Result, leaves as result_of, ran_result, evaluated_result, run_call, evaluate_call}
 use Rattle.assurance.specs.declared.Both.{Both}

@@ -1,6 +1,6 @@
 -- Demand 3, for a circuit that a reader gave: what the schedule, the run and `evaluate` then do.
 -- Assumes nothing.
-use Rattle.std.specs.Prelude.{ℕ, ◌+◌, ◌-◌, ◌*◌, ◌≤◌, ◌<◌, ◌≡◌, false, List, map, length, get_or}
+use Rattle.std.specs.Prelude.{ℕ, ◌+◌, ◌*◌, ◌≤◌, ◌<◌, ◌≡◌, false, List, map, length, get_or}
 use Rattle.laws.specs.Areas.{encodes}
 use Rattle.circuit.specs.declared.refusals.Checked.TheVariants.{Sound}
 use Rattle.circuit.specs.declared.records.BoolWire.{BoolWire}

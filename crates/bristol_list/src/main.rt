@@ -5,7 +5,7 @@
 use bristol::reader::parse_bristol;
 use circuit::refusals::Refusal;
 use printing::input::read_full;
-use printing::rooms::{node_room, output_room, wire_room, text_room};
+use printing::rooms::{node_room, output_room, text_room, wire_room};
 use printing::{print_read, print_refused};
 use std::io;
 

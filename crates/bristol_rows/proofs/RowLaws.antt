@@ -29,7 +29,7 @@ use Rattle.bristol_rows.specs.declared.answers.Made.TheVariants.{Refused as Made
 use Rattle.bristol_rows.specs.declared.answers.Row.{Row}
 use Rattle.bristol_rows.specs.declared.answers.Row.TheVariants.{Refused as RowRefused, Alias as RowAlias, Cell as RowCell}
 use Rattle.bristol_rows.specs.Numbers.{or_refuse, number, each_number}
-use Rattle.bristol_rows.specs.Operation.{table, operation}
+use Rattle.bristol_rows.specs.Operation.{operation}
 use Rattle.bristol_rows.specs.Row.{wire_number, drivers, cell_node, Gate, alias, cell, gate, row_output, row_wires, row}
 use Rattle.bristol_rows.specs.Promises.{words_from, made_of, no_slots, add_inputs, Gathered, drivers_of, CellIs, RowIs, gate_by, output_by, end_by, wires_by, invalid_arity, wrong_outputs}
 use Rattle.bristol_rows.proofs.OperationLaws.{operation_no}

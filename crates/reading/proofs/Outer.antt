@@ -1,6 +1,6 @@
 -- Laws of the outer functions: the areas made ready, and what a reading ends in.
 -- Assumes nothing.
-use Prim.Native.Nat.{ℕ, ◌+◌, ◌-◌, ◌*◌, ◌<◌}
+use Prim.Native.Nat.{ℕ, ◌-◌, ◌*◌, ◌<◌}
 use mathlib.Core.Path.{◌≡◌, sym, ap, ap₂, ◌∙◌}
 use mathlib.Core.Bool.{not}
 use mathlib.Core.List.{List, ◌++◌}

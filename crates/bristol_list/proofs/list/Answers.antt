@@ -6,11 +6,11 @@ use Rattle.bristol_list.proofs.list.Goals as goal
 
 pub print_read-requires : goal.print_read-requires
 unfolding bristol
-print_read-requires c =
+print_read-requires g c =
     let l = c.parse_bristol-read.ensures in
-    let k = c.parse_bristol-read.auto.1 in
+    let k = c.parse_bristol-read.auto in
     record {
       text_size = omega arith;
-      node_size = omega (arith, k.0, c.node_room-nodes.ensures);
-      inside = inside (bristol_circuit c.args.text.now (length c.node_room-nodes.result) (length c.output_room-outputs.result) (length c.wire_room-wires.result)) _ _ _ _ _ l.answer_is l.nodes_are k.0 l.outputs_are k.1.0;
+      node_size = omega (arith, k.nodes, c.node_room-nodes.ensures);
+      inside = inside (bristol_circuit c.args.text.now (length c.node_room-nodes.result) (length c.output_room-outputs.result) (length c.wire_room-wires.result)) _ _ _ _ _ l.answer_is l.nodes_are k.nodes l.outputs_are k.outputs;
     }

@@ -1,5 +1,5 @@
 use mathlib.Core.Path.{refl, sym, ap, ◌∙◌}
-use Prim.Native.Nat.{◌-◌, ◌<◌, zero-le}
+use Prim.Native.Nat.{◌<◌, zero-le}
 use native.Mathlib.Omega.{arith}
 use lib.ListN.{length, drop}
 use Rattle.circuit.specs.declared.refusals.Refusal.TheVariants.{Broken, NotEarlier}

@@ -1,4 +1,3 @@
-use Prim.Native.Nat.{◌-◌}
 use mathlib.Core.Path.{sym, ◌∙◌}
 use Rattle.laws.specs.Stretches.{stretch}
 use Rattle.bench.proofs.Naming.{named_input, named_output, named_other}

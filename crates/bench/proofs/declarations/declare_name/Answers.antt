@@ -1,4 +1,3 @@
-use Prim.Native.Nat.{◌-◌}
 use lib.ListN.{length}
 use Rattle.reading.specs.Holding.{held_of, words_of, state_of}
 use Rattle.bench.proofs.LineLaws.{declare_input, declare_output, declare_other}

@@ -1,4 +1,3 @@
-use Prim.Native.Nat.{◌-◌}
 use native.Mathlib.Omega.{arith}
 use Rattle.bench_invocations.specs.Invocations.{between}
 use Rattle.bench_invocations.proofs.Parts.{arguments_some}

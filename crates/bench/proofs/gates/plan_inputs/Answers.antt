@@ -1,4 +1,3 @@
-use Prim.Native.Nat.{◌-◌}
 use Rattle.names.specs.Chains.{entries}
 use Rattle.bench.proofs.Planning.{plan_refused, invoked_refused, inputs_refused, plan_made}
 use Rattle.bench.proofs.gates.plan_inputs.Goals as goal

@@ -1,4 +1,3 @@
-use Prim.Native.Nat.{◌-◌}
 use mathlib.Core.Path.{sym, ◌∙◌}
 use Rattle.laws.specs.Stretches.{stretch}
 use Rattle.bench_gates.proofs.Naming.{binary_and, binary_nand, binary_or, binary_nor, binary_xor, binary_xnor, binary_none}

@@ -1,4 +1,3 @@
-use Prim.Native.Nat.{◌-◌}
 use mathlib.Core.Path.{sym, ◌∙◌}
 use Rattle.laws.specs.Stretches.{stretch}
 use Rattle.bench_gates.proofs.Naming.{named_buff, named_buf, named-not, named_inv, named_binary}

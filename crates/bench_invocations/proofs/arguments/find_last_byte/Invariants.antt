@@ -1,4 +1,4 @@
-use Prim.Native.Nat.{◌-◌, ◌≤◌}
+use Prim.Native.Nat.{◌≤◌}
 use mathlib.Core.Path.{◌≡◌}
 use Rattle.laws.specs.Stretches.{stretch}
 use Rattle.bench_invocations.specs.Invocations.{up_to_last}

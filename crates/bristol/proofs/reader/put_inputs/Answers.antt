@@ -1,4 +1,4 @@
-use Prim.Native.Nat.{ℕ, ◌-◌, zero-le}
+use Prim.Native.Nat.{ℕ, zero-le}
 use mathlib.Core.Path.{◌≡◌, refl, sym, subst}
 use borrow.Author.Rules.{rules}
 use Rattle.bristol.specs.Promises.{HoldsNodes}

@@ -1,4 +1,4 @@
-use Prim.Native.Nat.{◌-◌, zero-le}
+use Prim.Native.Nat.{zero-le}
 use native.Mathlib.Omega.{arith}
 use Rattle.bristol_rows.proofs.InputLaws.{got_start, got_missing, got_more, got_end}
 use Rattle.bristol_rows.proofs.row.read_inputs.Goals as goal

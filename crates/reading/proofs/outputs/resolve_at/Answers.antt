@@ -1,5 +1,4 @@
 use mathlib.Core.Path.{refl, sym, ◌∙◌}
-use Prim.Native.Nat.{◌-◌}
 use Rattle.reading.proofs.outputs.resolve_at.Goals as goal
 
 pub returns-in-At : goal.returns-in-At

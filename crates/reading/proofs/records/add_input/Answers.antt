@@ -1,5 +1,4 @@
 use mathlib.Core.Path.{ap, ◌∙◌}
-use Prim.Native.Nat.{◌-◌, ◌<◌}
 use lib.Dec.{lit<}
 use lib.ListN.{length}
 use Rattle.circuit.specs.declared.records.BoolNode.{BoolNode}

@@ -1,6 +1,5 @@
 use borrow.Author.Tests.{not-true, not-false}
 use mathlib.Core.Path.{sym, ◌∙◌}
-use Prim.Native.Nat.{◌-◌}
 use Rattle.names.specs.Chains.{entries}
 use Rattle.reading.proofs.Steps.{find-false, find-true, find_other, find-plain}
 use Rattle.reading.proofs.records.find_wire.Goals as goal

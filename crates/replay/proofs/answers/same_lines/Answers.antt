@@ -1,7 +1,5 @@
-use Prim.Native.Nat.{◌-◌}
 use mathlib.Core.Path.{refl}
 use native.Mathlib.Omega.{arith}
-use Rattle.printing.proofs.Bounds.{line_inside, line_size}
 use Rattle.replay.proofs.answers.same_lines.Goals as goal
 
 pub overflow_add-lines : goal.overflow_add-lines
@@ -24,24 +22,6 @@ shape_of-line-then-answer-at c = omega arith
 
 pub overflow_add-end : goal.overflow_add-end
 overflow_add-end c = omega arith
-
-pub slice_bounds-same-end : goal.slice_bounds-same-end
-slice_bounds-same-end c = line_inside _ _ _ c.listing_line-size.ensures
-
-pub slice_bounds-same-end-in-loop-k : goal.slice_bounds-same-end-in-loop-k
-slice_bounds-same-end-in-loop-k c = line_size _ _ _ c.listing_line-size.ensures
-
-pub slice_bounds-same-count : goal.slice_bounds-same-count
-slice_bounds-same-count c = omega arith
-
-pub slice_bounds-same-start : goal.slice_bounds-same-start
-slice_bounds-same-start c = omega arith
-
-pub slice_bounds-same-end-in-loop-k-2 : goal.slice_bounds-same-end-in-loop-k-2
-slice_bounds-same-end-in-loop-k-2 c = omega arith
-
-pub shape_of-line-then-not-same : goal.shape_of-line-then-not-same
-shape_of-line-then-not-same c = omega arith
 
 pub overflow_step-k : goal.overflow_step-k
 overflow_step-k c = omega arith

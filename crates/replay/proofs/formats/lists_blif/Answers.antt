@@ -4,5 +4,5 @@ use Rattle.replay.proofs.formats.lists_blif.Goals as goal
 
 pub same_read-requires : goal.same_read-requires
 same_read-requires c =
-    let k = c.parse_blif-read.auto.1 in
-    joined_inside _ _ _ _ _ _ _ _ _ _ _ c.parse_blif-read.ensures (k.0 ∙ sym c.joined_room-joined.ensures) k.1.0 (sym c.node_room-nodes.ensures) k.1.1.1.0
+    let k = c.parse_blif-read.auto in
+    joined_inside _ _ _ _ _ _ _ _ _ _ _ c.parse_blif-read.ensures (k.joined ∙ sym c.joined_room-joined.ensures) k.nodes (sym c.node_room-nodes.ensures) k.outputs

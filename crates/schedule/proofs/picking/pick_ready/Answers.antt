@@ -1,4 +1,3 @@
-use Prim.Native.Nat.{◌-◌}
 use mathlib.Core.Path.{refl}
 use native.Mathlib.Omega.{arith}
 use Rattle.schedule.proofs.Scan.{scanning_start, scanning_take, scanning_full, scanning_none}

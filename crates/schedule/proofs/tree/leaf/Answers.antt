@@ -1,4 +1,3 @@
-use Prim.Native.Nat.{◌-◌}
 use native.Mathlib.Omega.{arith}
 use Rattle.schedule.proofs.Leaf.{scanned_start, scanned_over, bit-room, scanned_limit, scanned_more}
 use Rattle.schedule.proofs.tree.leaf.Goals as goal

@@ -1,4 +1,3 @@
-use Prim.Native.Nat.{◌-◌}
 use native.Mathlib.Omega.{arith}
 use Rattle.schedule.proofs.Ranking.{leaves_none, leaves_more, leaves_all}
 use Rattle.schedule.proofs.tree.put_leaves.Goals as goal

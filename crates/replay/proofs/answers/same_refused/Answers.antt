@@ -1,8 +1,0 @@
-use Rattle.printing.proofs.Bounds.{line_inside, line_size}
-use Rattle.replay.proofs.answers.same_refused.Goals as goal
-
-pub slice_bounds-line-end : goal.slice_bounds-line-end
-slice_bounds-line-end c = line_inside _ _ _ c.put_refused-size.ensures
-
-pub slice_bounds-same-end : goal.slice_bounds-same-end
-slice_bounds-same-end c = line_size _ _ _ c.put_refused-size.ensures
