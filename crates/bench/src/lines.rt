@@ -53,7 +53,7 @@ pub fn read_lines(
     names: &mut [usize],
     outputs: &mut [usize],
 ) -> Reading
-    requires kept { Kept text.now heads.old nodes.now names.old (record { nodes = 0; names = 0 }) }
+    requires kept { Kept text.now heads.old nodes.old names.old (record { nodes = 0; names = 0 }) }
     requires words_kept { WordsKept text.now outputs.old 0 }
     ensures kept_2 { Kept text.now heads.new nodes.new names.new result.counts }
     ensures words_kept_2 { WordsKept text.now outputs.new result.outputs }

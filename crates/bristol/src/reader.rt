@@ -56,7 +56,7 @@ pub fn read_gates(
     inputs: usize,
 ) -> Rows
     requires { (rest ≤ length text.now + 1) × (inputs ≤ length wires.old) × (inputs ≤ capacity 9 (length nodes.old)) × HoldsNodes nodes.old [] }
-    ensures { RowsAre (length (kept_lines (drop rest text.now))) nodes.exit.now wires.new (rows (capacity 9 (length nodes.entry.now)) (kept_lines (drop rest text.now)) (record { nodes = up_from input_node 0 inputs; wires = up_from input_slot 0 inputs ++ drop inputs wires.old })) result }
+    ensures { RowsAre (length (kept_lines (drop rest text.now))) nodes.new wires.new (rows (capacity 9 (length nodes.old)) (kept_lines (drop rest text.now)) (record { nodes = up_from input_node 0 inputs; wires = up_from input_slot 0 inputs ++ drop inputs wires.old })) result }
 {
     put_inputs(nodes, inputs);
     drive_inputs(wires, inputs);

@@ -23,7 +23,7 @@ pub fn row_step(
     next: NodeNumber,
 ) -> Step
     requires { (from ≤ end) × (end ≤ length text.now) }
-    ensures { (ns : List BoolNode) → length ns ≡ next.0 → HoldsNodes nodes.entry.now ns → StepIs nodes.exit.now wires.new (row_step (capacity 9 (length nodes.entry.now)) (stretch text.now from (end - from)) (record { nodes = ns; wires = wires.old })) result }
+    ensures { (ns : List BoolNode) → length ns ≡ next.0 → HoldsNodes nodes.old ns → StepIs nodes.new wires.new (row_step (capacity 9 (length nodes.old)) (stretch text.now from (end - from)) (record { nodes = ns; wires = wires.old })) result }
 {
     let r = read_row(text, from, end, wires);
     store_row(nodes, wires, next, r)
@@ -38,7 +38,7 @@ pub fn read_rows(
     first: NodeNumber,
 ) -> Rows
     requires { from ≤ length text.now + 1 }
-    ensures { (ns : List BoolNode) → length ns ≡ first.0 → HoldsNodes nodes.entry.now ns → RowsAre (length (kept_lines (drop from text.now))) nodes.exit.now wires.new (rows (capacity 9 (length nodes.entry.now)) (kept_lines (drop from text.now)) (record { nodes = ns; wires = wires.old })) result }
+    ensures { (ns : List BoolNode) → length ns ≡ first.0 → HoldsNodes nodes.old ns → RowsAre (length (kept_lines (drop from text.now))) nodes.new wires.new (rows (capacity 9 (length nodes.old)) (kept_lines (drop from text.now)) (record { nodes = ns; wires = wires.old })) result }
 {
     let mut at = from;
     let mut next = first;

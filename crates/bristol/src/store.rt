@@ -55,7 +55,7 @@ pub fn store_cell(
 
 pub fn store_row(nodes: &mut [usize], wires: &mut [usize], next: NodeNumber, r: Row) -> Step
     requires { RowFits (length wires.old) r }
-    ensures { (ns : List BoolNode) → length ns ≡ next.0 → HoldsNodes nodes.entry.now ns → StepIs nodes.exit.now wires.new (store_of (capacity 9 (length nodes.entry.now)) (gate_of r) (record { nodes = ns; wires = wires.old })) result }
+    ensures { (ns : List BoolNode) → length ns ≡ next.0 → HoldsNodes nodes.old ns → StepIs nodes.new wires.new (store_of (capacity 9 (length nodes.old)) (gate_of r) (record { nodes = ns; wires = wires.old })) result }
 {
     match r {
         Row::Refused(e) => Step::Refused(e),

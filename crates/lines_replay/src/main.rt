@@ -73,7 +73,9 @@ fn replay(rt: &impl Print, recorded: &[u8]) -> io::Result<()> {
 }
 
 fn replay_file(rt: &(impl Files + Print)) -> io::Result<()> {
-    let mut file = File::open(rt, "joined_lines")?;
+    let Ok(mut file) = File::open(rt, "joined_lines") else {
+        return Ok(());
+    };
     let mut recorded = text_room();
     let n = read_full(&mut file, &mut recorded)?;
     replay(rt, &recorded[..n])

@@ -102,7 +102,9 @@ fn replay(format: Format, recorded: &[u8]) -> Counts {
 }
 
 fn replay_file(rt: &(impl Files + Print), format: Format, name: &str) -> io::Result<()> {
-    let mut file = File::open(rt, name)?;
+    let Ok(mut file) = File::open(rt, name) else {
+        return Ok(());
+    };
     let mut recorded = text_room();
     let n = read_full(&mut file, &mut recorded)?;
     let counts = replay(format, &recorded[..n]);
