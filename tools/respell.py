@@ -3,8 +3,8 @@
 
 usage: tools/respell.py            once, at the top, after the kit's port.py
 
-checkNodes becomes check_nodes, now-is becomes now_is. A dash stays where it joins two names (length-encodes: the outer function
-first), and where another name is spelled so already. Files of proofs/, specs/, must-fail/ and the clauses of src/ are rewritten
+checkNodes becomes check_nodes, now-is becomes now_is. In a lemma's name a dash stays where it joins two names (length-encodes: the
+outer function first), and where another name is spelled so already; in a field of a record none stays. Files of proofs/, specs/, must-fail/ and the clauses of src/ are rewritten
 in place, and names between backquotes in README.md and docs/.
 """
 import collections
@@ -29,7 +29,12 @@ def read(path):
         return f.read()
 
 
-defined, functions, theirs, used = set(), set(), set(), set()
+RECORD = re.compile(r"(?m)^( *)(?:pub )?record [^\n]*where\n((?:\1  +[^\n]*\n|\n)+)")
+# fields whose name in snake case is a definition that the same file cites, or whose name is one of the library's lemmas
+FIELDS = {"run-outputs": "outputs_of_run", "is-cell": "is_a_cell", "node-words": "words_of_nodes", "output-words": "words_of_outputs"}
+IN_ONE_FILE = {"crates/bench_meaning/proofs/Naming.antt": {"not-false": "not_false", "not-true": "not_true"}}
+
+defined, functions, theirs, used, fields = set(), set(), set(), set(), set()
 for path in antt:
     text = read(path)
     used.update(WORD.findall(re.sub(r"--[^\n]*", "", text)))
@@ -38,6 +43,8 @@ for path in antt:
             theirs.update(WORD.findall(line))
     if path.endswith("/Proof.antt"):
         continue
+    for m in RECORD.finditer(text):
+        fields.update(re.findall(r"(?m)^ +(?:pub )?([a-z][\w'-]*) : ", m[2]))
     for line in text.split("\n"):
         m = HEAD.match(line)
         if m and m[2] not in ("let", "use", "module"):
@@ -73,6 +80,9 @@ for name in sorted(defined - theirs, key=lambda it: (snake(it) == it, it)):
     if not name[:1].islower():
         continue
     new = snake(name)
+    if name in fields:
+        table[name] = FIELDS.get(name, new.replace("-", "_"))
+        continue
     with_words = dashes(new)
     if with_words != new and with_words not in used and with_words not in table.values():
         new = with_words
@@ -81,6 +91,7 @@ for name in sorted(defined - theirs, key=lambda it: (snake(it) == it, it)):
 # a lemma that would have its function's name
 if "free_in" in defined and "freeIn" in defined:
     table["free_in"] = "free_in_lem"
+table = {name: new for name, new in table.items() if name != new}
 clash = collections.Counter(table.values())
 for name, new in table.items():
     if clash[new] > 1:
@@ -106,6 +117,8 @@ for path in antt + rt + edits + pages:
         new = re.sub(r"(?m)^\s*(?:ghost use|requires|ensures)[^\n]*|//[^\n]*", lambda m: turn(m[0]), old)
     else:
         new = turn(old, not path.endswith(".edit"))
+        for name, word in IN_ONE_FILE.get(path, {}).items():
+            new = re.sub(r"(?<![\w-])" + name + r"(?![\w-])", word, new)
     if new != old:
         with open(path, "w", encoding="utf-8", newline="") as f:
             f.write(new)

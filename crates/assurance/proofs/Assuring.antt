@@ -38,18 +38,18 @@ module _ (c : Circuit) where
   output_length : length (output_records c) ≡ length c.outputs * 5
   output_length = length-encodes encode_output 5 output_wide c.outputs
 
-  pub node-count : length (node_records c) / 9 ≡ length c.nodes
-  node-count = omega (arith, node_length)
+  pub node_count : length (node_records c) / 9 ≡ length c.nodes
+  node_count = omega (arith, node_length)
 
-  pub output-count : length (output_records c) / 5 ≡ length c.outputs
-  output-count = omega (arith, output_length)
+  pub output_count : length (output_records c) / 5 ≡ length c.outputs
+  output_count = omega (arith, output_length)
 
   pub nodes-in : nodes_in (node_records c) ≡ c.nodes
-  nodes-in = ap (nodes_of (node_records c)) node-count ∙ nodes_of_area (node_records c) c.nodes [] (sym (append-nil (node_records c)))
+  nodes-in = ap (nodes_of (node_records c)) node_count ∙ nodes_of_area (node_records c) c.nodes [] (sym (append-nil (node_records c)))
 
   pub wires-in : wires_in (output_records c) ≡ wires_out c
   wires-in =
-      ap (output_wires (output_records c)) output-count ∙ wires_of_outputs (output_records c) (length c.outputs)
+      ap (output_wires (output_records c)) output_count ∙ wires_of_outputs (output_records c) (length c.outputs)
       ∙ ap (map (λ (o : Output). o.wire)) (outputs_of_area (output_records c) c.outputs [] (sym (append-nil (output_records c))))
 
   pub topological : check_circuit c.nodes (wires_out c) ≡ Sound → topological_fault (node_records c) (output_records c) ≡ Sound
@@ -71,13 +71,13 @@ module _ (c : Circuit) (window : ℕ) (keys assignment old : List ℕ) (ready su
   rooms : room (length (node_records c) / 9) ready successors order ≡ true
   unfolding room
   rooms =
-      rw (node-count c, le-leb (3 * length c.nodes) ready lent.ready-room, le-leb (2 * length c.nodes + 1) successors lent.successors_room)
-      (le-leb (length c.nodes) order lent.order-room)
+      rw (node_count c, le-leb (3 * length c.nodes) ready lent.ready_room, le-leb (2 * length c.nodes + 1) successors lent.successors_room)
+      (le-leb (length c.nodes) order lent.order_room)
 
   call_sound : call_fault (node_records c) (output_records c) window keys ready successors order ≡ Sound
   unfolding call_fault
   call_sound =
-      let n : 3 * (length (node_records c) / 9) ≡ 3 * length c.nodes = ap (λ (k : ℕ). 3 * k) (node-count c) in
+      let n : 3 * (length (node_records c) / 9) ≡ 3 * length c.nodes = ap (λ (k : ℕ). 3 * k) (node_count c) in
       rw (
         validated_records (node_records c) (output_records c) (topological c checks),
         ne_eqb window 0 (λ z. omega (arith, z, lent.window_is)),
@@ -105,7 +105,7 @@ module _ (c : Circuit) (window : ℕ) (keys assignment old : List ℕ) (ready su
   fits = rw (schedule_fit (graph_of c.nodes) window (key_at keys), eq-eqb (length (order_of c window keys)) (length (cells_of (graph_of c.nodes))) number)
 
   roomy : Sound ≡ room_fault (node_records c) (output_records c) (length old) answers
-  roomy = has_room (node_records c) (output_records c) (length old) answers (omega (arith, node-count c, lent.store-room)) (omega (arith, output-count c, lent.answers_room))
+  roomy = has_room (node_records c) (output_records c) (length old) answers (omega (arith, node_count c, lent.store_room)) (omega (arith, output_count c, lent.answers_room))
 
   runs : run_fault (node_records c) (output_records c) (order_of c window keys) assignment (length old) answers ≡ Sound
   unfolding run_fault assignment_fault order_fault
@@ -122,7 +122,7 @@ module _ (c : Circuit) (window : ℕ) (keys assignment old : List ℕ) (ready su
     run_accepted = runs;
     in_order = ordered;
     lists_all = listed;
-    outputs = along c.nodes (wires_out c) assignment (circuit-sound c.nodes (wires_out c) checks) (order_of c window keys) old lent.store-room fits;
+    outputs = along c.nodes (wires_out c) assignment (circuit-sound c.nodes (wires_out c) checks) (order_of c window keys) old lent.store_room fits;
     evaluate_accepted = evaluable;
     evaluates = λ e. sym (evaluate_same c.nodes (wires_out c) assignment (assigned_bits assignment (assigned 1 c.nodes assignment e).1));
     keeps = λ other agree j known. monotone c.nodes (wires_out c) assignment other agree j known;

@@ -22,7 +22,7 @@ use Rattle.runs.specs.Calls.{Result, leaves as result_of, ran_result, evaluated_
 use Rattle.assurance.specs.declared.Both.{Both}
 use Rattle.assurance.specs.Assurance.{wires_out, node_records, output_records, order_of, outputs_of, Lent, Assured}
 use Rattle.assurance.specs.Carried.{RanThenEvaluated, Carried}
-use Rattle.assurance.proofs.Assuring.{output-count, nodes-in, wires-in, graph-in, order-in, accepted, number, assured}
+use Rattle.assurance.proofs.Assuring.{output_count, nodes-in, wires-in, graph-in, order-in, accepted, number, assured}
 
 -- ---- the run, then `evaluate`
 
@@ -44,9 +44,9 @@ pub ran-then-evaluated : (nodes outputs order assignment old answers evaluates :
     → RanThenEvaluated nodes outputs order assignment old answers evaluates r values' answers' evaluated'
 unfolding evaluate_call
 ran-then-evaluated nodes outputs order assignment old answers evaluates r mid values' answers' evaluated' p l q = record {
-  run-number = ran_number r.ran mid answers' ∙ ap (λ (x : Result). x.number) p;
+  run_number = ran_number r.ran mid answers' ∙ ap (λ (x : Result). x.number) p;
   run_count = ran_count r.ran mid answers' ∙ ap (λ (x : Result). x.count) p;
-  run-outputs = ran_outputs r.ran mid answers' ∙ ap (λ (x : Result). x.outputs) p;
+  outputs_of_run = ran_outputs r.ran mid answers' ∙ ap (λ (x : Result). x.outputs) p;
   evaluates = rw l at q;
 }
 
@@ -103,11 +103,11 @@ module _ (c : Circuit) (window : ℕ) (keys assignment old ready successors orde
       wide = record {
         window_is = lent.window_is;
         keys_are = lent.keys_are;
-        ready-room = lent.ready-room;
+        ready_room = lent.ready_room;
         successors_room = lent.successors_room;
-        order-room = lent.order-room;
+        order_room = lent.order_room;
         values_are = lent.values_are;
-        store-room = lent.store-room;
+        store_room = lent.store_room;
         answers_room = evRoom;
       }
 
@@ -116,15 +116,15 @@ module _ (c : Circuit) (window : ℕ) (keys assignment old ready successors orde
       unfolding evaluate_call result_of
       evaluate_is e =
           let a = assured c window keys assignment old (length ready) (length successors) (length order) (length evaluates) checks wide in
-          rw (a.evaluate_accepted e, nodes-in c, wires-in c, output-count c, a.evaluates e)
+          rw (a.evaluate_accepted e, nodes-in c, wires-in c, output_count c, a.evaluates e)
 
       pub carried : Carried c window keys assignment old (length ready) (length successors) (length order) answers (length evaluates) r z values' answers' evaluated'
       carried = record {
         assured = claims;
         order_is = order-area;
-        run_accepted = ran.run-number ∙ ap (λ (x : Result). x.number) run_is;
+        run_accepted = ran.run_number ∙ ap (λ (x : Result). x.number) run_is;
         run_cells = ran.run_count ∙ ap (λ (x : Result). x.count) run_is;
-        outputs_are = ran.run-outputs ∙ ap (λ (x : Result). x.outputs) run_is;
+        outputs_are = ran.outputs_of_run ∙ ap (λ (x : Result). x.outputs) run_is;
         evaluates = λ e. ran.evaluates ∙ evaluate_is e;
       }
 

@@ -76,7 +76,7 @@ module _ (nodes outputs : List ℕ) (window : ℕ) (keys ready successors order 
       let same : f ≡ e = cc in
       record {
         run = subst (λ (g : Refusal). RefusedRun g values answers evaluated b values' answers' evaluated') same run;
-        ready-is = ap (λ (l : Left). l.ready) left;
+        ready_is = ap (λ (l : Left). l.ready) left;
         successors_are = ap (λ (l : Left). l.successors) left;
         order_is = ap (λ (l : Left). l.order) left;
       }

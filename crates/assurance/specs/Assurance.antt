@@ -41,11 +41,11 @@ Agrees a b = (p : ℕ) → get_or a p 0 < 2 → get_or b p 0 ≡ get_or a p 0
 pub record Lent (c : Circuit) (window : ℕ) (keys assignment old : List ℕ) (ready successors order answers : ℕ) : Type 0 where
   pub window_is : 1 ≤ window
   pub keys_are : length keys ≡ 3 * length c.nodes
-  pub ready-room : 3 * length c.nodes ≤ ready
+  pub ready_room : 3 * length c.nodes ≤ ready
   pub successors_room : 2 * length c.nodes + 1 ≤ successors
-  pub order-room : length c.nodes ≤ order
+  pub order_room : length c.nodes ≤ order
   pub values_are : wrong_assignment 2 c.nodes assignment ≡ false
-  pub store-room : length c.nodes ≤ length old
+  pub store_room : length c.nodes ≤ length old
   pub answers_room : length c.outputs ≤ answers
 
 -- what demand 3 claims

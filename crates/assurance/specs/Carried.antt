@@ -12,14 +12,14 @@ use Rattle.assurance.specs.Assurance.{wires_out, node_records, output_records, o
 
 -- the run, then `evaluate`: each by its own definition
 pub record RanThenEvaluated (nodes outputs order assignment old answers evaluated : List ℕ) (r : Both) (values' answers' evaluated' : List ℕ) : Type 0 where
-  pub run-number : (ran_result r.ran [] []).number ≡ (run_call nodes outputs order assignment old answers).number
+  pub run_number : (ran_result r.ran [] []).number ≡ (run_call nodes outputs order assignment old answers).number
   pub run_count : (ran_result r.ran [] []).count ≡ (run_call nodes outputs order assignment old answers).count
-  pub run-outputs : answers' ≡ (run_call nodes outputs order assignment old answers).outputs
+  pub outputs_of_run : answers' ≡ (run_call nodes outputs order assignment old answers).outputs
   pub evaluates : evaluated_result r.evaluated values' evaluated' ≡ evaluate_call nodes outputs assignment old evaluated
 
 -- "The .. ready and successor areas and the value store are work areas, zero after any call"
 pub record Cleared (ready successors values : ℕ) (ready' successors' values' : List ℕ) : Type 0 where
-  pub ready-is : ready' ≡ replicate ready 0
+  pub ready_is : ready' ≡ replicate ready 0
   pub successors_are : successors' ≡ replicate successors 0
   pub values_are : values' ≡ replicate values 0
 

@@ -12,7 +12,7 @@ use Rattle.assurance.specs.declared.Both.{Both}
 -- both answers are the refusal, and the areas of the run and of `evaluate`, of so many bytes, are zeros
 pub record RefusedRun (e : Refusal) (values answers evaluated : ℕ) (r : Both) (values' answers' evaluated' : List ℕ) : Type 0 where
   pub ran_is : r.ran ≡ NotRun e
-  pub evaluated-is : r.evaluated ≡ NotEvaluated e
+  pub evaluated_is : r.evaluated ≡ NotEvaluated e
   pub values_are : values' ≡ replicate values 0
   pub answers_are : answers' ≡ replicate answers 0
   pub evaluated_are : evaluated' ≡ replicate evaluated 0
@@ -20,7 +20,7 @@ pub record RefusedRun (e : Refusal) (values answers evaluated : ℕ) (r : Both) 
 -- "A refusal .. zeros every area lent for writing": the schedule's areas too
 pub record RefusedBoth (e : Refusal) (ready successors order values answers evaluated : ℕ) (r : Both) (ready' successors' order' values' answers' evaluated' : List ℕ) : Type 0 where
   pub run : RefusedRun e values answers evaluated r values' answers' evaluated'
-  pub ready-is : ready' ≡ replicate ready 0
+  pub ready_is : ready' ≡ replicate ready 0
   pub successors_are : successors' ≡ replicate successors 0
   pub order_is : order' ≡ replicate order 0
 

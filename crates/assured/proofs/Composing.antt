@@ -39,7 +39,7 @@ module _ {A : Type 0} (enc : A → List ℕ) (w : ℕ) (wide : (a : A) → lengt
 -- the same contents, with the answer that the definition gives
 pub leaves_answer : (text : List ℕ) (c : Try Circuit) (j n m o : ℕ) (r : Read) (J N M O : List ℕ) → Leaves text c j n m o r J N M O → Leaves text c j n m o (read_answer c) J N M O
 leaves_answer text c j n m o r J N M O l =
-    record { answer = refl; joined_is = l.joined_is; nodes_is = l.nodes_is; names-is = l.names-is; outputs-is = l.outputs-is }
+    record { answer = refl; joined_is = l.joined_is; nodes_is = l.nodes_is; names_is = l.names_is; outputs_is = l.outputs_is }
 
 module _ (read : Try Circuit) (n o : ℕ) (r : Read) (N O : List ℕ) (answer : r ≡ read_answer read) (nodes_are : N ≡ filled (node_words read) n) (outputs_are : O ≡ filled (output_words read) o) where
   never : (e : Refusal) (k l : ℕ) → Refused e ≡ Accepted k l → ⊥
@@ -56,11 +56,11 @@ module _ (read : Try Circuit) (n o : ℕ) (r : Read) (N O : List ℕ) (answer : 
     counts : Accepted k l ≡ Accepted (length c.nodes) (length c.outputs)
     counts = sym p ∙ answer ∙ ap read_answer q
 
-    node-count : k ≡ length c.nodes
-    node-count = let s = counts in cc
+    node_count : k ≡ length c.nodes
+    node_count = let s = counts in cc
 
-    output-count : l ≡ length c.outputs
-    output-count = let s = counts in cc
+    output_count : l ≡ length c.outputs
+    output_count = let s = counts in cc
 
     node_area : N ≡ filled (node_records c) n
     node_area = nodes_are ∙ ap (λ (t : Try Circuit). filled (node_words t) n) q
@@ -69,16 +69,16 @@ module _ (read : Try Circuit) (n o : ℕ) (r : Read) (N O : List ℕ) (answer : 
     output_area = outputs_are ∙ ap (λ (t : Try Circuit). filled (output_words t) o) q
 
     nodes_inside : k * 9 ≤ length N
-    nodes_inside = records_inside encode_node 9 node_wide c.nodes k n N node_area node-count
+    nodes_inside = records_inside encode_node 9 node_wide c.nodes k n N node_area node_count
 
     outputs_inside : l * 5 ≤ length O
-    outputs_inside = records_inside encode_output 5 output_wide c.outputs l o O output_area output-count
+    outputs_inside = records_inside encode_output 5 output_wide c.outputs l o O output_area output_count
 
     nodes_front : take (k * 9) N ≡ node_records c
-    nodes_front = records_front encode_node 9 node_wide c.nodes k n N node_area node-count
+    nodes_front = records_front encode_node 9 node_wide c.nodes k n N node_area node_count
 
     outputs_front : take (l * 5) O ≡ output_records c
-    outputs_front = records_front encode_output 5 output_wide c.outputs l o O output_area output-count
+    outputs_front = records_front encode_output 5 output_wide c.outputs l o O output_area output_count
 
   module _ (window : ℕ) (keys assignment old : List ℕ) (ready successors order answers evaluated : ℕ) (b : Both) (ready' successors' order' values' answers' evaluated' : List ℕ) where
     -- the composed call, of a text that the reader refuses

@@ -62,7 +62,7 @@ short_zeroed : (r : Read) (joined nodes names outputs : List ℕ) → Leaves sho
 short_zeroed r joined nodes names outputs l = zeroed (subst (λ (c : Try Circuit). Leaves short c 128 36 4 5 r joined nodes names outputs) short_refused l)
   where
     zeroed : Leaves short (no NoRoom) 128 36 4 5 r joined nodes names outputs → Zeroed NoRoom 128 36 4 5 r joined nodes names outputs
-    zeroed k = record { answer = k.answer; joined_is = k.joined_is; nodes_is = k.nodes_is; names-is = k.names-is; outputs-is = k.outputs-is }
+    zeroed k = record { answer = k.answer; joined_is = k.joined_is; nodes_is = k.nodes_is; names_is = k.names_is; outputs_is = k.outputs_is }
 
 -- the six tables, with the first input as the first wire: XOR(a, a), constants as inputs, letters in any case
 operations : map read (areas (73 ∷ 78 ∷ 80 ∷ 85 ∷ 84 ∷ 40 ∷ 97 ∷ 41 ∷ 10 ∷ 79 ∷ 85 ∷ 84 ∷ 80 ∷ 85 ∷ 84 ∷ 40 ∷ 121 ∷ 41 ∷ 10 ∷ 121 ∷ 61 ∷ 120 ∷ 111 ∷ 114 ∷ 40 ∷ 97 ∷ 44 ∷ 97 ∷ 41 ∷ []) 45 20 10 ∷ areas (79 ∷ 85 ∷ 84 ∷ 80 ∷ 85 ∷ 84 ∷ 40 ∷ 121 ∷ 41 ∷ 10 ∷ 121 ∷ 61 ∷ 65 ∷ 110 ∷ 100 ∷ 40 ∷ 84 ∷ 82 ∷ 85 ∷ 69 ∷ 44 ∷ 70 ∷ 65 ∷ 76 ∷ 83 ∷ 69 ∷ 41 ∷ []) 45 20 10 ∷ areas (79 ∷ 85 ∷ 84 ∷ 80 ∷ 85 ∷ 84 ∷ 40 ∷ 121 ∷ 41 ∷ 10 ∷ 121 ∷ 61 ∷ 78 ∷ 97 ∷ 110 ∷ 100 ∷ 40 ∷ 84 ∷ 82 ∷ 85 ∷ 69 ∷ 44 ∷ 70 ∷ 65 ∷ 76 ∷ 83 ∷ 69 ∷ 41 ∷ []) 45 20 10 ∷ areas (79 ∷ 85 ∷ 84 ∷ 80 ∷ 85 ∷ 84 ∷ 40 ∷ 121 ∷ 41 ∷ 10 ∷ 121 ∷ 61 ∷ 79 ∷ 114 ∷ 40 ∷ 84 ∷ 82 ∷ 85 ∷ 69 ∷ 44 ∷ 70 ∷ 65 ∷ 76 ∷ 83 ∷ 69 ∷ 41 ∷ []) 45 20 10 ∷ areas (79 ∷ 85 ∷ 84 ∷ 80 ∷ 85 ∷ 84 ∷ 40 ∷ 121 ∷ 41 ∷ 10 ∷ 121 ∷ 61 ∷ 78 ∷ 111 ∷ 114 ∷ 40 ∷ 84 ∷ 82 ∷ 85 ∷ 69 ∷ 44 ∷ 70 ∷ 65 ∷ 76 ∷ 83 ∷ 69 ∷ 41 ∷ []) 45 20 10 ∷ areas (79 ∷ 85 ∷ 84 ∷ 80 ∷ 85 ∷ 84 ∷ 40 ∷ 121 ∷ 41 ∷ 10 ∷ 121 ∷ 61 ∷ 88 ∷ 111 ∷ 114 ∷ 40 ∷ 84 ∷ 82 ∷ 85 ∷ 69 ∷ 44 ∷ 70 ∷ 65 ∷ 76 ∷ 83 ∷ 69 ∷ 41 ∷ []) 45 20 10 ∷ areas (79 ∷ 85 ∷ 84 ∷ 80 ∷ 85 ∷ 84 ∷ 40 ∷ 121 ∷ 41 ∷ 10 ∷ 121 ∷ 61 ∷ 88 ∷ 110 ∷ 111 ∷ 114 ∷ 40 ∷ 84 ∷ 82 ∷ 85 ∷ 69 ∷ 44 ∷ 70 ∷ 65 ∷ 76 ∷ 83 ∷ 69 ∷ 41 ∷ []) 45 20 10 ∷ []) ≡ (1 ∷ 0 ∷ 0 ∷ 1 ∷ 6 ∷ 1 ∷ 0 ∷ 0 ∷ 0 ∷ 2 ∷ 2 ∷ 6 ∷ 1 ∷ 19 ∷ 1 ∷ 0 ∷ 2 ∷ 2 ∷ 1 ∷ 16 ∷ 1 ∷ 0 ∷ 3 ∷ []) ∷ (2 ∷ 2 ∷ 8 ∷ 1 ∷ 10 ∷ 1 ∷ 0 ∷ 1 ∷ 0 ∷ 1 ∷ 7 ∷ 1 ∷ 0 ∷ 2 ∷ []) ∷ (2 ∷ 2 ∷ 7 ∷ 1 ∷ 10 ∷ 1 ∷ 0 ∷ 1 ∷ 0 ∷ 1 ∷ 7 ∷ 1 ∷ 0 ∷ 2 ∷ []) ∷ (2 ∷ 2 ∷ 14 ∷ 1 ∷ 10 ∷ 1 ∷ 0 ∷ 1 ∷ 0 ∷ 1 ∷ 7 ∷ 1 ∷ 0 ∷ 2 ∷ []) ∷ (2 ∷ 2 ∷ 1 ∷ 1 ∷ 10 ∷ 1 ∷ 0 ∷ 1 ∷ 0 ∷ 1 ∷ 7 ∷ 1 ∷ 0 ∷ 2 ∷ []) ∷ (2 ∷ 2 ∷ 6 ∷ 1 ∷ 10 ∷ 1 ∷ 0 ∷ 1 ∷ 0 ∷ 1 ∷ 7 ∷ 1 ∷ 0 ∷ 2 ∷ []) ∷ (2 ∷ 2 ∷ 9 ∷ 1 ∷ 10 ∷ 1 ∷ 0 ∷ 1 ∷ 0 ∷ 1 ∷ 7 ∷ 1 ∷ 0 ∷ 2 ∷ []) ∷ []

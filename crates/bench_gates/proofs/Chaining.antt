@@ -38,7 +38,7 @@ cell-is n r h = λ i. record {
   count = h.count_is i;
   table = h.table_is i;
   name = h.name_is i;
-  first = h.first-is i;
+  first = h.first_is i;
   second = h.second_is i;
 }
 

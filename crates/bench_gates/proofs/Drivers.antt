@@ -117,7 +117,7 @@ wire_kept xs n k x kept l e = go (eqb n k) refl (ltb k n) refl
 
 module _ (t : List ℕ) (es : List Entry) (all : List Word) where
   pub walking_start : Walking t es all all 0 no_wires
-  walking_start = record { done = []; whole = go (input_wires t es all); number = refl; kept = record { first-is = refl; second_is = refl; third_is = refl } }
+  walking_start = record { done = []; whole = go (input_wires t es all); number = refl; kept = record { first_is = refl; second_is = refl; third_is = refl } }
     where
       go : (r : Try (List ℕ)) → r ≡ and_then r (λ ys. yes ([] ++ ys))
       go (no e) = refl
@@ -133,7 +133,7 @@ module _ (t : List ℕ) (es : List Entry) (all : List Word) where
       whole = h.whole ∙ ap (λ (r : Try (List ℕ)). and_then r (λ ys. yes (h.done ++ ys))) (inputs_more t es left v rest e x q) ∙ go (input_wires t es rest);
       number = length-append h.done (x ∷ []) ∙ ap (λ (m : ℕ). m + 1) h.number;
       kept = record {
-        first-is = wire_kept h.done n 0 x w.first h.number h.kept.first-is;
+        first_is = wire_kept h.done n 0 x w.first h.number h.kept.first_is;
         second_is = wire_kept h.done n 1 x w.second h.number h.kept.second_is;
         third_is = wire_kept h.done n 2 x w.third h.number h.kept.third_is;
       };

@@ -28,7 +28,7 @@ use Rattle.bench_gates.proofs.Chaining.{chain-words}
 -- what one input gives, by its kept wire
 module _ (t : List ℕ) (es : List Entry) (ws : List Word) (inputs : ℕ) (d : Driven t es ws inputs) where
   pub one_kept : {B : Type 0} (f : ℕ → Try B) (w : Wires) → FirstWires t es ws w → if_one inputs (f w.first) ≡ and_then (input_wires t es ws) (λ xs. and_then (only_one xs) f)
-  one_kept f w k = rw (d.are, ← count) (go d.wires (k d.wires d.are).first-is)
+  one_kept f w k = rw (d.are, ← count) (go d.wires (k d.wires d.are).first_is)
     where
       count : length d.wires ≡ inputs
       count = inputs-length t es ws d.wires d.are ∙ sym d.count_is
@@ -74,9 +74,9 @@ module _ (p : Places) (out : Word) (h : Held) where
 -- at most three wires are all kept
 all_kept : (w : Wires) (xs : List ℕ) → AreFirst w xs → length xs ≤ 3 → take (length xs) (w.first ∷ w.second ∷ w.third ∷ []) ≡ xs
 all_kept w [] f l = refl
-all_kept w (x ∷ []) f l = rw f.first-is
-all_kept w (x ∷ y ∷ []) f l = rw (f.first-is, f.second_is)
-all_kept w (x ∷ y ∷ z ∷ []) f l = rw (f.first-is, f.second_is, f.third_is)
+all_kept w (x ∷ []) f l = rw f.first_is
+all_kept w (x ∷ y ∷ []) f l = rw (f.first_is, f.second_is)
+all_kept w (x ∷ y ∷ z ∷ []) f l = rw (f.first_is, f.second_is, f.third_is)
 all_kept w (x ∷ y ∷ z ∷ v ∷ vs) f l = absurd (omega arith)
 
 few : (p : Places) (out : Word) (o : Binary) (h : Held) (xs : List ℕ) → length xs < 2 → no WrongCount ≡ lower_gate p out (Chain o) xs h

@@ -38,7 +38,7 @@ pub record CellIs (n r : BoolNode) : Type 0 where
   pub count_is : r.count ≡ n.count
   pub table_is : r.table ≡ n.table
   pub name_is : r.name ≡ n.name
-  pub first-is : r.first ≡ n.first
+  pub first_is : r.first ≡ n.first
   pub second_is : r.second ≡ n.second
 
 -- so many inputs, each with a driver
@@ -49,7 +49,7 @@ pub record Driven (t : List ℕ) (es : List Entry) (ws : List Word) (count : ℕ
 
 -- the first three of some wires, 0 where there is none
 pub record AreFirst (w : Wires) (xs : List ℕ) : Type 0 where
-  pub first-is : w.first ≡ get_or xs 0 0
+  pub first_is : w.first ≡ get_or xs 0 0
   pub second_is : w.second ≡ get_or xs 1 0
   pub third_is : w.third ≡ get_or xs 2 0
 

@@ -29,8 +29,8 @@ module _ (t : List ℕ) where
 
   -- a name that is not defined yet
   record Fresh (bytes : List ℕ) (es : List Entry) : Type 0 where
-    not-false : same_bytes bytes (70 ∷ 65 ∷ 76 ∷ 83 ∷ 69 ∷ []) ≡ false
-    not-true : same_bytes bytes (84 ∷ 82 ∷ 85 ∷ 69 ∷ []) ≡ false
+    not_false : same_bytes bytes (70 ∷ 65 ∷ 76 ∷ 83 ∷ 69 ∷ []) ≡ false
+    not_true : same_bytes bytes (84 ∷ 82 ∷ 85 ∷ 69 ∷ []) ≡ false
     unknown : lookup t bytes es ≡ Nothing
 
   fresh : (bytes : List ℕ) (es : List Entry) → found_in es bytes ≡ Nothing → Fresh bytes es
@@ -40,13 +40,13 @@ module _ (t : List ℕ) where
           → cond u (At 0) (cond v (At 1) (lookup t bytes es)) ≡ Nothing → Fresh bytes es
       go true e v f r = absurd (at_nothing r)
       go false e true f r = absurd (at_nothing r)
-      go false e false f r = record { not-false = e; not-true = f; unknown = r }
+      go false e false f r = record { not_false = e; not_true = f; unknown = r }
 
   pub find_new : (w : Word) (x : ℕ) (es : List Entry) → find true t w es ≡ Nothing → find true t w (entry w x ∷ es) ≡ At x
   unfolding lookup
   find_new w x es q =
       let f = fresh (bytes_of t w) es (sym (find-is w es) ∙ q) in
-      find-is w (entry w x ∷ es) ∙ rw (f.not-false, f.not-true, same_refl (bytes_of t w))
+      find-is w (entry w x ∷ es) ∙ rw (f.not_false, f.not_true, same_refl (bytes_of t w))
 
   pub find-kept : (w u : Word) (x y : ℕ) (es : List Entry) → find true t w es ≡ Nothing → find true t u es ≡ At y → find true t u (entry w x ∷ es) ≡ At y
   unfolding lookup

@@ -135,8 +135,8 @@ module _ (t : List ℕ) (p : Places) (s : State) (read : each (read_line t p) (l
       let e : storage_outputs s.held.nodes outs a ≡ map (value t a s.held) (declared output_named t (lines 0 t))
       = storage_is s.held.nodes outs a ∙ resolved t a s.held s.outputs os ends ∙ ap (map (value t a s.held)) r.collects in
       record {
-        false-is = refl;
-        true-is = refl;
+        false_is = refl;
+        true_is = refl;
         assigned = r.assigned;
         equations = r.equations;
         outputs_are = e;

@@ -89,8 +89,8 @@ name_value t nodes wire assignment w = signal_value (storage_values nodes assign
 -- under an assignment, unknowns among its values or not, every equation of the text holds, and the outputs are the values of the names of `OUTPUT`
 pub record Means (t : List ℕ) (ls : List Word) (nodes : List BoolNode) (outs : List BoolWire) (wire : List ℕ → BoolWire) (assignment : List ℕ) : Type 0 where
   -- "`FALSE` and `TRUE` are defined first"
-  pub false-is : wire (70 ∷ 65 ∷ 76 ∷ 83 ∷ 69 ∷ []) ≡ Const false
-  pub true-is : wire (84 ∷ 82 ∷ 85 ∷ 69 ∷ []) ≡ Const true
+  pub false_is : wire (70 ∷ 65 ∷ 76 ∷ 83 ∷ 69 ∷ []) ≡ Const false
+  pub true_is : wire (84 ∷ 82 ∷ 85 ∷ 69 ∷ []) ≡ Const true
   pub assigned : Assigned (name_value t nodes wire assignment) assignment 0 (declared input_named t ls)
   pub equations : All (Equation (name_value t nodes wire assignment)) (gates t ls)
   pub outputs_are : storage_outputs nodes outs assignment ≡ map (name_value t nodes wire assignment) (declared output_named t ls)

@@ -157,7 +157,7 @@ cell-node p n f nz h = go p.inputs refl
       count = (h.count_is ∙ e) i;
       table = h.table_is i;
       name = h.name_is i;
-      first = (h.first-is ∙ q) i;
+      first = (h.first_is ∙ q) i;
       second = (h.second_is ∙ r) i;
     }
 

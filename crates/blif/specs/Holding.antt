@@ -55,5 +55,5 @@ pub record CellIs (p : Planned) (n : BoolNode) : Type 0 where
   pub count_is : n.count ≡ p.inputs
   pub table_is : n.table ≡ p.table
   pub name_is : n.name ≡ Stretch p.start p.len
-  pub first-is : n.first ≡ wire_of p.first
+  pub first_is : n.first ≡ wire_of p.first
   pub second_is : n.second ≡ wire_of p.second

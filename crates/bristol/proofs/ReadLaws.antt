@@ -74,8 +74,8 @@ module _ (nr or : ℕ) (h : Head) (ls : List (List ℕ)) where
       is = rw (g.stands.is, eq-eqb (length ls) h.gates (sym g.all ∙ d), o.is);
       nodes_held = g.stands.holds;
       outputs_held = o.holds;
-      node-count = g.stands.count;
-      output-count = o.count;
+      node_count = g.stands.count;
+      output_count = o.count;
     }
 
 -- ---- what is left
@@ -95,7 +95,7 @@ module _ (a b c : ℕ) (x : Try Circuit) (nodes outputs wires : List ℕ) (ew : 
   pub leaves-circuit : (n m : ℕ) → Built nodes outputs x n m → length nodes ≡ a → length outputs ≡ b → Leaves (leave a b c x) (ReadCircuit n m) nodes outputs wires
   leaves-circuit n m g en eo =
       rw g.is (record {
-        answer_is = ap₂ (λ (x y : ℕ). ReadCircuit x y) (sym g.node-count) (sym g.output-count);
+        answer_is = ap₂ (λ (x y : ℕ). ReadCircuit x y) (sym g.node_count) (sym g.output_count);
         nodes_are = held_filled encode_node 9 node_wide nodes g.circuit.nodes a en g.nodes_held;
         outputs_are = held_filled encode_output 5 output_wide outputs g.circuit.outputs b eo g.outputs_held;
         wires_are = ew;

@@ -77,7 +77,7 @@ pub record Ready (text : List ℕ) (rest : ℕ) (head : Head) (nodes outputs wir
   pub fits : head.inputs + head.outputs ≤ head.wires
   pub room : head.inputs ≤ capacity 9 (length nodes)
   pub nodes_empty : HoldsNodes nodes []
-  pub outputs-empty : HoldsOutputs outputs []
+  pub outputs_empty : HoldsOutputs outputs []
   pub wires_zero : wires ≡ replicate head.wires 0
 
 pub record Built (nodes outputs : List ℕ) (x : Try Circuit) (n m : ℕ) : Type 0 where
@@ -85,8 +85,8 @@ pub record Built (nodes outputs : List ℕ) (x : Try Circuit) (n m : ℕ) : Type
   pub is : x ≡ yes circuit
   pub nodes_held : HoldsNodes nodes circuit.nodes
   pub outputs_held : HoldsOutputs outputs circuit.outputs
-  pub node-count : length circuit.nodes ≡ n
-  pub output-count : length circuit.outputs ≡ m
+  pub node_count : length circuit.nodes ≡ n
+  pub output_count : length circuit.outputs ≡ m
 
 abbrev pub ReadIs : List ℕ → List ℕ → Try Circuit → Read → Type 0
 ReadIs nodes outputs x (ReadRefused e) = x ≡ no e

@@ -42,7 +42,7 @@ pub record Accepts (wires : List ℕ) (ws : List (List ℕ)) (g : Gate) : Type 0
   pub out : ℕ
   pub ds : List BoolWire
   pub op : Op
-  pub inputs-is : parse_usize (get_or ws 0 []) ≡ some inputs
+  pub inputs_is : parse_usize (get_or ws 0 []) ≡ some inputs
   pub ins_are : parse_each (take inputs (drop 2 ws)) ≡ some ins
   pub out_is : parse_usize (get_or (after inputs ws) 0 []) ≡ some out
   pub below : out < length wires
@@ -70,7 +70,7 @@ accepted wires ws g h =
       out = o.0;
       ds = m.0;
       op = p.0;
-      inputs-is = number-some (get_or ws 0 []) b.0 b.1;
+      inputs_is = number-some (get_or ws 0 []) b.0 b.1;
       ins_are = each-some (take b.0 (drop 2 ws)) i.0 i.1;
       out_is = number-some (get_or us 0 []) o.0 o.1;
       below = ltb-true o.0 (length wires) n.0;

@@ -184,17 +184,17 @@ module _ (wires : List ℕ) where
 
   -- the slots hold the first two drivers
   pub record Driven (s : Slots) (ds : List BoolWire) : Type 0 where
-    pub first-is : wire_of (s.first - 1) ≡ get_or ds 0 no_wire
+    pub first_is : wire_of (s.first - 1) ≡ get_or ds 0 no_wire
     pub second_is : wire_of (s.second - 1) ≡ get_or ds 1 no_wire
     pub all : s.undriven ≡ false
 
   pub driven_slots : (ns : List ℕ) (ds : List BoolWire) → drivers wires (map wire_number ns) ≡ yes ds → Driven (add_slots 0 no_slots ns) ds
   unfolding add_slots
-  driven_slots [] ds h = rw (drivers-nil ds h) (record { first-is = refl; second_is = refl; all = refl })
+  driven_slots [] ds h = rw (drivers-nil ds h) (record { first_is = refl; second_is = refl; all = refl })
   driven_slots (a ∷ []) ds h =
       let f = front a [] ds h in
       let e : add_slot no_slots 0 (get_or wires a 0) ≡ record { first = get_or wires a 0; second = 0; undriven = false; invalid = false } = slot_by no_slots 0 (get_or wires a 0) ∙ rw (ne_eqb (get_or wires a 0) 0 f.some) in
-      rw (f.all, drivers-nil f.tail f.is, e) (record { first-is = refl; second_is = refl; all = refl })
+      rw (f.all, drivers-nil f.tail f.is, e) (record { first_is = refl; second_is = refl; all = refl })
   driven_slots (a ∷ b ∷ ns) ds h =
       let f = front a (b ∷ ns) ds h in
       let g = front b ns f.tail f.is in
@@ -202,7 +202,7 @@ module _ (wires : List ℕ) where
       let e : add_slot no_slots 0 (get_or wires a 0) ≡ one = slot_by no_slots 0 (get_or wires a 0) ∙ rw (ne_eqb (get_or wires a 0) 0 f.some) in
       let two : add_slot one 1 (get_or wires b 0) ≡ record { first = get_or wires a 0; second = get_or wires b 0; undriven = false; invalid = false } = slot_by one 1 (get_or wires b 0) ∙ rw (ne_eqb (get_or wires b 0) 0 g.some) in
       rw (later-slots ns g.tail 2 (add_slot (add_slot no_slots 0 (get_or wires a 0)) 1 (get_or wires b 0)) (omega arith) g.is, e, two, f.all, g.all)
-      (record { first-is = refl; second_is = refl; all = refl })
+      (record { first_is = refl; second_is = refl; all = refl })
 
 -- ---- the loop over the words
 

@@ -159,8 +159,8 @@ op_same : (wires : List ℕ) (op : List ℕ) (ds : List BoolWire) (n : ℕ) (slo
     → and_then (operation op n) (λ o. yes (gate out (drivers_of n slots) o)) ≡ and_then (operation op n) (λ o. yes (gate out ds o))
 op_same wires op [] n slots out d e =
     operation_no op n (λ o. gate out (drivers_of n slots) o) (λ o. gate out [] o) (λ z. omega (arith, e)) (λ z. omega (arith, e))
-op_same wires op (x ∷ []) n slots out d e = rw (e, d.first-is)
-op_same wires op (x ∷ y ∷ []) n slots out d e = rw (e, d.first-is, d.second_is)
+op_same wires op (x ∷ []) n slots out d e = rw (e, d.first_is)
+op_same wires op (x ∷ y ∷ []) n slots out d e = rw (e, d.first_is, d.second_is)
 op_same wires op (x ∷ y ∷ z ∷ zs) n slots out d e =
     operation_no op n (λ o. gate out (drivers_of n slots) o) (λ o. gate out (x ∷ y ∷ z ∷ zs) o) (λ q. omega (arith, e)) (λ q. omega (arith, e))
 

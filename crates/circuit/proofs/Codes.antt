@@ -53,7 +53,7 @@ node_is a k h =
       count = h.count_is i;
       table = h.table_is i;
       name = h.name_is i;
-      first = h.first-is i;
+      first = h.first_is i;
       second = h.second_is i;
     }
 

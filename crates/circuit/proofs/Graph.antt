@@ -81,7 +81,7 @@ module _ (c : List Vertex) where
   pub ready_placed : (before : List ℕ) (x : ℕ) → ready c before x ≡ true → Placed c before x
   ready_placed before x h =
       record {
-        is-cell = waits-cell before x (ready-waits before x h);
+        is_a_cell = waits-cell before x (ready-waits before x h);
         fresh = waits_fresh before x (ready-waits before x h);
         after = λ y r. taken_of before y r.source (free_at before (reads_of c x) y (ready-free before x h) r.among);
       }

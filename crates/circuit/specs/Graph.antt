@@ -93,7 +93,7 @@ Forward c = (x y : ℕ) → Reads c x y → y < x
 
 -- a cell, not listed before, after every cell that it reads
 pub record Placed (c : List Vertex) (before : List ℕ) (x : ℕ) : Type 0 where
-  pub is-cell : is_cell c x ≡ true
+  pub is_a_cell : is_cell c x ≡ true
   pub fresh : elem x before ≡ false
   pub after : (y : ℕ) → Reads c x y → elem y before ≡ true
 

@@ -61,7 +61,7 @@ pub record NodeIs (a : List ℕ) (at : ℕ) (n : BoolNode) : Type 0 where
   pub count_is : n.count ≡ get_or a (at + 1) 0
   pub table_is : n.table ≡ get_or a (at + 2) 0
   pub name_is : n.name ≡ name_from (get_or a (at + 3) 0) (get_or a (at + 4) 0) (get_or a (at + 5) 0) (get_or a (at + 6) 0)
-  pub first-is : n.first ≡ wire_of (get_or a (at + 7) 0)
+  pub first_is : n.first ≡ wire_of (get_or a (at + 7) 0)
   pub second_is : n.second ≡ wire_of (get_or a (at + 8) 0)
 
 -- an output: name, wire

@@ -123,8 +123,8 @@ module _ (t : List ℕ) (l : Word) (ok : LineOk t l) where
       let a = each_word t l.start (l.start + l.len) in
       all_map (line_words t l) (λ w q. omega (arith, q.inside, ok.inside)) (rw e at a)
 
-  first-is : first_word (split_whitespace (bytes_of t l)) ≡ first_of t (line_words t l)
-  first-is = ap first_word words_are ∙ go (line_words t l)
+  first_is : first_word (split_whitespace (bytes_of t l)) ≡ first_of t (line_words t l)
+  first_is = ap first_word words_are ∙ go (line_words t l)
     where
       go : (ws : List Word) → first_word (map (bytes_of t) ws) ≡ first_of t ws
       go [] = refl
@@ -197,7 +197,7 @@ kinds w = go (same_bytes w model) refl (same_bytes w the_end) refl (same_bytes w
 
 module _ (t : List ℕ) (l : Word) (ok : LineOk t l) where
   kinds_of : Kinds (first_word (split_whitespace (bytes_of t l))) (directive_of t l)
-  kinds_of = unfold directive_of in rw (first-is t l ok) (kinds (first_of t (line_words t l)))
+  kinds_of = unfold directive_of in rw (first_is t l ok) (kinds (first_of t (line_words t l)))
 
   pub inputs_line : is_line_of inputs (bytes_of t l) ≡ is_inputs (directive_of t l)
   inputs_line = kinds_of.of_inputs

@@ -197,9 +197,9 @@ no_inputs : input_count [] ≡ 0
 unfolding input_count
 no_inputs = refl
 
-evaluated-is : (a : List ℕ) (ns : List BoolNode) (ws : List BoolWire) → evaluated ns ws a ≡ map (signal_value (values a ns)) ws
+evaluated_is : (a : List ℕ) (ns : List BoolNode) (ws : List BoolWire) → evaluated ns ws a ≡ map (signal_value (values a ns)) ws
 unfolding evaluated outputs_from
-evaluated-is a ns ws = refl
+evaluated_is a ns ws = refl
 
 -- the wire of a name; of one that is not defined the constant 0
 abbrev pub name_wire : List ℕ → Held → List ℕ → BoolWire
@@ -224,5 +224,5 @@ text_means text j n m o c q =
         record {
           assigned = rw (no_inputs, b) at r.assigned;
           equations = rw b at r.equations;
-          outputs_are = evaluated-is a s.held.nodes (map (λ (x : Output). x.wire) (map output_of os)) ∙ resolved t a ha s.held s.outputs os y ∙ ap (map (value t a s.held)) (r.collects ∙ ap (declared outputs) b);
+          outputs_are = evaluated_is a s.held.nodes (map (λ (x : Output). x.wire) (map output_of os)) ∙ resolved t a ha s.held s.outputs os y ∙ ap (map (value t a s.held)) (r.collects ∙ ap (declared outputs) b);
         }

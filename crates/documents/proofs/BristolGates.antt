@@ -219,7 +219,7 @@ module _ (ins : List ℕ) (s : State) (bits : List ℕ) (f : Follows ins s bits)
     (r : Accepts s.wires ws g) (h : store room g s ≡ yes s')
   where
     inputs_are : num (get_or ws 0 []) ≡ r.inputs
-    inputs_are = num-is (get_or ws 0 []) r.inputs r.inputs-is
+    inputs_are = num-is (get_or ws 0 []) r.inputs r.inputs_is
 
     words_are : input_words ws ≡ take r.inputs (drop 2 ws)
     unfolding input_words
@@ -266,12 +266,12 @@ module _ (ins : List ℕ) (s : State) (bits : List ℕ) (f : Follows ins s bits)
     unfolding entry_of wires_of is_cell_node
     two_entry t d = rw (d.ds_are, d.drives.value, d.drives_too.value)
 
-    is-cell : (t : ℕ) → is_cell_node (cell_node (wire_number r.out) t r.ds) ≡ true
+    is_a_cell : (t : ℕ) → is_cell_node (cell_node (wire_number r.out) t r.ds) ≡ true
     unfolding is_cell_node
-    is-cell t = refl
+    is_a_cell t = refl
 
     cell_follows : (t v : ℕ) → table t ≡ r.op → entry_of (node_bits ins s.nodes) (cell_node (wire_number r.out) t r.ds) ≡ v → Follows ins s' (set bits r.out v)
-    cell_follows t v e q = follow_cell ins s bits f r.out (cell_node (wire_number r.out) t r.ds) v room s' r.below (is-cell t) q (gate-of (table t) e)
+    cell_follows t v e q = follow_cell ins s bits f r.out (cell_node (wire_number r.out) t r.ds) v room s' r.below (is_a_cell t) q (gate-of (table t) e)
 
     follows_inv : name_word ws ≡ 73 ∷ 78 ∷ 86 ∷ [] → Follows ins s' (gate_step bits ws)
     unfolding same_bytes

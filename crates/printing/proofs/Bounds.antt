@@ -81,8 +81,8 @@ inside c r nodes outputs w o p a s b t = subst (λ (x : Read). ReadInside x node
     go (no e) a b = tt
     go (yes q) a b =
         record {
-          node-words = omega (arith, filled_inside (encodes encode_node q.nodes) nodes w a s, length-encodes encode_node 9 node_wide q.nodes);
-          output-words = omega (arith, filled_inside (encodes encode_output q.outputs) outputs o b t, length-encodes encode_output 5 output_wide q.outputs);
+          words_of_nodes = omega (arith, filled_inside (encodes encode_node q.nodes) nodes w a s, length-encodes encode_node 9 node_wide q.nodes);
+          words_of_outputs = omega (arith, filled_inside (encodes encode_output q.outputs) outputs o b t, length-encodes encode_output 5 output_wide q.outputs);
         }
 
 pub read_inside : (r : Read) (text nodes outputs : List ℕ) (n m : ℕ) → Listable text nodes outputs r → r ≡ Accepted n m → Inside n m nodes outputs
@@ -92,7 +92,7 @@ read_inside r text nodes outputs n m l e = subst (λ (x : Read). ReadInside x no
 pub joined_inside : (text : List ℕ) (c : Try Circuit) (j w k o : ℕ) (r : Read) (joined nodes names outputs : List ℕ) → Leaves text c j w k o r joined nodes names outputs
     → length joined ≡ 32769 → length nodes ≡ w → w ≡ 9216 → length outputs ≡ o → Listable joined nodes outputs r
 joined_inside text c j w k o r joined nodes names outputs l f s g t =
-    record { text_size = omega arith; node_size = omega arith; inside = inside c r nodes outputs w o l.answer l.nodes_is s l.outputs-is t }
+    record { text_size = omega arith; node_size = omega arith; inside = inside c r nodes outputs w o l.answer l.nodes_is s l.outputs_is t }
 
 -- ---- parts of areas
 

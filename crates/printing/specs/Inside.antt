@@ -5,8 +5,8 @@ use Rattle.circuit.specs.declared.refusals.Read.{Read}
 use Rattle.circuit.specs.declared.refusals.Read.TheVariants.{Circuit, Refused}
 
 pub record Inside (n m : ℕ) (nodes outputs : List ℕ) : Type 0 where
-  pub node-words : n * 9 ≤ length nodes
-  pub output-words : m * 5 ≤ length outputs
+  pub words_of_nodes : n * 9 ≤ length nodes
+  pub words_of_outputs : m * 5 ≤ length outputs
 
 abbrev pub ReadInside : Read → List ℕ → List ℕ → Type 0
 ReadInside (Circuit n m) nodes outputs = Inside n m nodes outputs

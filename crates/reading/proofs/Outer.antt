@@ -83,8 +83,8 @@ leaves_refused text c e j n m o r J N M O q z = record {
   answer = z.answer ∙ ap read_answer (sym q);
   joined_is = rw q (z.joined_is ∙ zeros_less j);
   nodes_is = rw q (z.nodes_is ∙ zeros_less n);
-  names-is = z.names-is;
-  outputs-is = rw q (z.outputs-is ∙ zeros_less o);
+  names_is = z.names_is;
+  outputs_is = rw q (z.outputs_is ∙ zeros_less o);
 }
 
 module _ (text : List ℕ) (used : ℕ) (c : Try Circuit) (ended : Ended) (J N O : List ℕ) (m : ℕ) (joins : JoinedIn text used J) (ends : Ends c ended N O) where
@@ -102,7 +102,7 @@ module _ (text : List ℕ) (used : ℕ) (c : Try Circuit) (ended : Ended) (J N O
       record {
         answer = rw is (ap₂ Accepted (sym ln) (sym lo));
         joined_is = rw is joins.area;
-        nodes_is = rw is ((ends.nodes-kept q).clean ∙ ap (λ (k : ℕ). encodes encode_node x.nodes ++ replicate (length N - k) 0) (sym (length-encodes encode_node 9 node_wide x.nodes ∙ ap (λ (k : ℕ). k * 9) ln)));
-        names-is = z;
-        outputs-is = rw is ((ends.outputs-kept q).clean ∙ ap (λ (k : ℕ). encodes encode_output x.outputs ++ replicate (length O - k) 0) (sym (length-encodes encode_output 5 output_wide x.outputs ∙ ap (λ (k : ℕ). k * 5) lo)));
+        nodes_is = rw is ((ends.nodes_kept q).clean ∙ ap (λ (k : ℕ). encodes encode_node x.nodes ++ replicate (length N - k) 0) (sym (length-encodes encode_node 9 node_wide x.nodes ∙ ap (λ (k : ℕ). k * 9) ln)));
+        names_is = z;
+        outputs_is = rw is ((ends.outputs_kept q).clean ∙ ap (λ (k : ℕ). encodes encode_output x.outputs ++ replicate (length O - k) 0) (sym (length-encodes encode_output 5 output_wide x.outputs ∙ ap (λ (k : ℕ). k * 5) lo)));
       }

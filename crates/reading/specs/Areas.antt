@@ -27,16 +27,16 @@ pub record Leaves (text : List ℕ) (c : Try Circuit) (j n m o : ℕ) (r : Read)
   pub answer : r ≡ read_answer c
   pub joined_is : joined ≡ filled (joined_bytes text c) j
   pub nodes_is : nodes ≡ filled (node_words c) n
-  pub names-is : names ≡ replicate m 0
-  pub outputs-is : outputs ≡ filled (output_words c) o
+  pub names_is : names ≡ replicate m 0
+  pub outputs_is : outputs ≡ filled (output_words c) o
 
 -- "A refusal .. zeros every area lent for writing"
 pub record Zeroed (e : Refusal) (j n m o : ℕ) (r : Read) (joined nodes names outputs : List ℕ) : Type 0 where
   pub answer : r ≡ Refused e
   pub joined_is : joined ≡ replicate j 0
   pub nodes_is : nodes ≡ replicate n 0
-  pub names-is : names ≡ replicate m 0
-  pub outputs-is : outputs ≡ replicate o 0
+  pub names_is : names ≡ replicate m 0
+  pub outputs_is : outputs ≡ replicate o 0
 
 -- the joined text stands in front of its area, zeros after it
 pub record JoinedIn (text : List ℕ) (used : ℕ) (joined : List ℕ) : Type 0 where
@@ -50,7 +50,7 @@ pub record Readied (text : List ℕ) (j n o used : ℕ) (joined nodes outputs : 
   pub short : used < 2097152
   pub joined_in : JoinedIn text used joined
   pub nodes_is : nodes ≡ replicate n 0
-  pub outputs-is : outputs ≡ replicate o 0
+  pub outputs_is : outputs ≡ replicate o 0
 
 abbrev pub PreparedIs : List ℕ → ℕ → ℕ → ℕ → List ℕ → List ℕ → List ℕ → Prepared → Type 0
 PreparedIs text j n o joined nodes outputs (Unread e) = text_fault text j ≡ Faulty e

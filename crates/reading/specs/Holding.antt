@@ -79,8 +79,8 @@ put_wire a j Nothing = a
 -- what the end of the reading leaves: the circuit of the areas, or the fault
 pub record Ends (c : Try Circuit) (e : Ended) (ns os : List ℕ) : Type 0 where
   pub is : outcome e.fault (record { nodes = nodes_of ns e.nodes; outputs = outputs_of os e.outputs }) ≡ c
-  pub nodes-kept : e.fault ≡ Sound → NodesKept ns e.nodes
-  pub outputs-kept : e.fault ≡ Sound → OutputsKept os e.outputs
+  pub nodes_kept : e.fault ≡ Sound → NodesKept ns e.nodes
+  pub outputs_kept : e.fault ≡ Sound → OutputsKept os e.outputs
 
 -- the wires of the outputs are found, or the fault; whatever the nodes are
 pub record Resolved (constants : Bool) (t : List ℕ) (es : List Entry) (ws : List Word) (fault : Checked) (os : List ℕ) (n : ℕ) : Type 0 where

@@ -23,7 +23,7 @@ gives_same a b number n m e g = record {
 pub joined_call : (means : List ℕ → ℕ → ℕ → ℕ → ℕ → Try Circuit) (text : List ℕ) (j n m o : ℕ) (read : Read) (number k l : ℕ) (joined nodes names outputs : List ℕ) → Leaves text (means text j n m o) j n m o read joined nodes names outputs → ReadGives read number k l → JoinedCall means text j n m o number k l joined nodes names outputs
 joined_call means text j n m o read number k l joined nodes names outputs d g = record {
   gives = gives_same _ _ number k l d.answer g;
-  leaves = record { answer = refl; joined_is = d.joined_is; nodes_is = d.nodes_is; names-is = d.names-is; outputs-is = d.outputs-is };
+  leaves = record { answer = refl; joined_is = d.joined_is; nodes_is = d.nodes_is; names_is = d.names_is; outputs_is = d.outputs_is };
 }
 
 pub bristol_call : (left : bristol.Left) (read : Read) (number k l : ℕ) (nodes outputs wires : List ℕ) → bristolContracts.Leaves left read nodes outputs wires → ReadGives read number k l → BristolCall left number k l nodes outputs wires

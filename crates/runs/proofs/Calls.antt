@@ -88,14 +88,14 @@ module _ (nodes outputs : List ℕ) (store answers : ℕ) where
   has_room h l = rw (le-ltb store (length nodes / 9) h, le-ltb answers (length outputs / 5) l)
 
   pub record Room : Type 0 where
-    pub store-room : length nodes / 9 ≤ store
+    pub store_room : length nodes / 9 ≤ store
     pub answers_room : length outputs / 5 ≤ answers
 
   room_of : room_fault nodes outputs store answers ≡ Sound → Room
   unfolding room_fault
   room_of e =
       let g = neither (ltb store (length nodes / 9)) (ltb answers (length outputs / 5)) (not_refused _ NoRoom e) in
-      record { store-room = ltb-false store (length nodes / 9) g.0; answers_room = ltb-false answers (length outputs / 5) g.1 }
+      record { store_room = ltb-false store (length nodes / 9) g.0; answers_room = ltb-false answers (length outputs / 5) g.1 }
 
 -- ---- a circuit that the check accepts, in its areas
 

@@ -77,13 +77,13 @@ each-sound nodes m h = scan_start nodes m ∙ along m (omega arith) ∙ scan_end
 -- what a prepared call and nodes that pass make of the circuit check and of 19
 module _ (top : ℕ) (nodes outputs assignment : List ℕ) (store answers : ℕ) (a : Prepared top nodes outputs assignment store answers) (b : Passing nodes (length nodes / 9) assignment) where
   pub passing_checked : topological_fault nodes outputs ≡ Sound
-  passing_checked = topological_whole nodes outputs (is_whole nodes outputs a.whole_nodes a.whole-outputs) ∙ rw (b.accepted, a.wired)
+  passing_checked = topological_whole nodes outputs (is_whole nodes outputs a.whole_nodes a.whole_outputs) ∙ rw (b.accepted, a.wired)
 
   pub passing_assigned : wrong_assignment top (nodes_in nodes) assignment ≡ false
   passing_assigned = sym (right_length top (nodes_in nodes) assignment b.inputs) ∙ a.values
 
   pub passing_room : room_fault nodes outputs store answers ≡ Sound
-  passing_room = sym (has_room nodes outputs store answers a.store-room a.answers_room)
+  passing_room = sym (has_room nodes outputs store answers a.store_room a.answers_room)
 
 -- and back
 whole_of : (nodes outputs : List ℕ) → topological_fault nodes outputs ≡ Sound → (length nodes % 9 ≡ 0) × (length outputs % 5 ≡ 0)
@@ -99,8 +99,8 @@ module _ (top : ℕ) (nodes outputs assignment : List ℕ) (store answers : ℕ)
       let g = whole_of nodes outputs e in
       record {
         whole_nodes = g.0;
-        whole-outputs = g.1;
-        store-room = r.store-room;
+        whole_outputs = g.1;
+        store_room = r.store_room;
         answers_room = r.answers_room;
         values = v;
         wired = outputs_wired nodes outputs e;

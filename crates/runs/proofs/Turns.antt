@@ -140,7 +140,7 @@ pub kind_word : (nodes : List ℕ) (k : ℕ) → (node_at nodes k).kind ≡ get_
 kind_word nodes k = ap (λ (j : ℕ). get_or nodes j 0) (add-zero (k * 9))
 
 pub node_at_is : (nodes : List ℕ) (k : ℕ) → NodeIs nodes (k * 9) (node_at nodes k)
-node_at_is nodes k = record { kind_is = kind_word nodes k; count_is = refl; table_is = refl; name_is = refl; first-is = refl; second_is = refl }
+node_at_is nodes k = record { kind_is = kind_word nodes k; count_is = refl; table_is = refl; name_is = refl; first_is = refl; second_is = refl }
 
 pub word_cell : (nodes : List ℕ) (k : ℕ) → get_or nodes (k * 9) 0 ≡ 2 → is_cell_node (node_at nodes k) ≡ true
 unfolding is_cell_node

@@ -18,8 +18,8 @@ Tells false P = P → ⊥
 -- what an accepted call has beside its nodes, whose values go up to the top
 pub record Prepared (top : ℕ) (nodes outputs assignment : List ℕ) (store answers : ℕ) : Type 0 where
   pub whole_nodes : length nodes % 9 ≡ 0
-  pub whole-outputs : length outputs % 5 ≡ 0
-  pub store-room : length nodes / 9 ≤ store
+  pub whole_outputs : length outputs % 5 ≡ 0
+  pub store_room : length nodes / 9 ≤ store
   pub answers_room : length outputs / 5 ≤ answers
   pub values : some (ltb top) assignment ≡ false
   pub wired : some_not_below (length nodes / 9) (wires_in outputs) ≡ false

@@ -107,9 +107,9 @@ module _ (nodes outputs : List ℕ) (window : ℕ) (keys : List ℕ) (ready succ
           wired = sound_wired nodes (length nodes / 9) (wires_in outputs) unbroken;
           window_is = omega (arith, eqb-false window 0 (not_refused _ NoWindow window_sound.0));
           keys_are = eqb-true (length keys) (3 * (length nodes / 9)) (not-false _ (not_refused _ WrongValues keys_sound.0));
-          ready-room = leb-true (3 * (length nodes / 9)) ready a.0;
-          successor-room = omega (arith, leb-true (2 * (length nodes / 9) + 1) successors b.0);
-          order-room = leb-true (length nodes / 9) order b.1;
+          ready_room = leb-true (3 * (length nodes / 9)) ready a.0;
+          successor_room = omega (arith, leb-true (2 * (length nodes / 9) + 1) successors b.0);
+          order_room = leb-true (length nodes / 9) order b.1;
         }
 
 -- the order, or 17

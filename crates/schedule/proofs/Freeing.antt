@@ -110,9 +110,9 @@ pub record Releasing (src : ℕ → ℕ) (c : List Vertex) (taken : List ℕ) (p
   pub levels : Levels (drop (2 * length c) area) (length c)
   pub flags : (q : ℕ) → q < length c → member (drop (2 * length c) area) q ≡ still_ready src c taken p m q || eqb q p
 
-module _ (src : ℕ → ℕ) (c : List Vertex) (taken area next : List ℕ) (p : ℕ) (run : Running src c taken area next) (is-ready : ready c taken p ≡ true) where
+module _ (src : ℕ → ℕ) (c : List Vertex) (taken area next : List ℕ) (p : ℕ) (run : Running src c taken area next) (is_ready : ready c taken p ≡ true) where
   now_waits : waits c taken p ≡ true
-  now_waits = ready-waits c taken p is-ready
+  now_waits = ready-waits c taken p is_ready
 
   in_range : p < length c
   in_range = cell_below c p (waits-cell c taken p now_waits)
@@ -139,7 +139,7 @@ module _ (src : ℕ → ℕ) (c : List Vertex) (taken area next : List ℕ) (p :
     where
       go : (t : Bool) → eqb q p ≡ t → member (drop (2 * length c) area) q ≡ still_ready src c taken p (last_of src p (2 * length c)) q || eqb q p
       go true e =
-          run.flags q h ∙ ap (ready c taken) (eqb-true q p e) ∙ is-ready
+          run.flags q h ∙ ap (ready c taken) (eqb-true q p e) ∙ is_ready
           ∙ sym (ap (λ (t : Bool). still_ready src c taken p (last_of src p (2 * length c)) q || t) e ∙ or_true (still_ready src c taken p (last_of src p (2 * length c)) q))
       go false e = run.flags q h ∙ ready_now q h ∙ rw (e, start-both q h, ← (same q (eqb-false q p e))) (sym (or_false _))
 
@@ -159,7 +159,7 @@ module _ (src : ℕ → ℕ) (c : List Vertex) (taken area next : List ℕ) (p :
   started = rw (run.heads p in_range) releasing_start
 
   ready-none : both (reading src (waits c taken)) p ≡ 0
-  ready-none = eqb-true _ 0 (and-true (waits c taken p) (eqb (both (reading src (waits c taken)) p) 0) (sym (ready_now p in_range) ∙ is-ready)).1
+  ready-none = eqb-true _ 0 (and-true (waits c taken p) (eqb (both (reading src (waits c taken)) p) 0) (sym (ready_now p in_range) ∙ is_ready)).1
 
   module _ (now : List ℕ) (m : ℕ) (rel : Releasing src c taken p now m) (some : m ≢ 0) where
     abbrev reader : ℕ
@@ -320,36 +320,36 @@ module _ (count : ℕ) (area next : List ℕ) (p : ℕ) (after : List ℕ) (edge
       subst (λ (n : ℕ). Takable n after p) r.size
       (record {
         room = rel.room;
-        below = in_range r.src r.circuit r.taken area next p r.running r.is-ready;
+        below = in_range r.src r.circuit r.taken area next p r.running r.is_ready;
         levels = rel.levels;
-        flag = flagged r.src r.circuit r.taken area next p r.running r.is-ready after edge rel;
+        flag = flagged r.src r.circuit r.taken area next p r.running r.is_ready after edge rel;
       })
     where
       rel : Releasing r.src r.circuit r.taken p after edge
-      rel = descent r.src r.circuit r.taken r.size r.running r.is-ready
+      rel = descent r.src r.circuit r.taken r.size r.running r.is_ready
 
   pub safe : Releasable count area next p → edge ≢ 0 → Safe count after next edge
   safe r n =
       subst (λ (k : ℕ). Safe k after next edge) r.size
       (record {
         room = rel.room;
-        reader = reader_in r.src r.circuit r.taken area next p r.running r.is-ready after edge rel n;
+        reader = reader_in r.src r.circuit r.taken area next p r.running r.is_ready after edge rel n;
         levels = rel.levels;
-        fresh = was r.src r.circuit r.taken area next p r.running r.is-ready after edge rel n;
-        some = releasing_some r.src r.circuit r.taken area next p r.running r.is-ready after edge rel n;
+        fresh = was r.src r.circuit r.taken area next p r.running r.is_ready after edge rel n;
+        some = releasing_some r.src r.circuit r.taken area next p r.running r.is_ready after edge rel n;
         there = omega (arith, rel.here, r.running.links);
-        down = omega (arith, next-is r.src r.circuit r.taken area next p r.running r.is-ready after edge rel n, last_le r.src p (edge - 1));
+        down = omega (arith, next-is r.src r.circuit r.taken area next p r.running r.is_ready after edge rel n, last_le r.src p (edge - 1));
       })
     where
       rel : Releasing r.src r.circuit r.taken p after edge
-      rel = descent r.src r.circuit r.taken r.size r.running r.is-ready
+      rel = descent r.src r.circuit r.taken r.size r.running r.is_ready
 
   pub descended : edge ≡ 0 → (final : List ℕ) → Moved false count after p final → Released count area next p final
   descended z final moved src c taken e run h = releasing_end src c taken area next p run h after (subst (Releasing src c taken p after) z (descent src c taken e run h)) final (subst (λ (n : ℕ). Moved false n after p final) (sym e) moved)
 
 -- where the release begins
 pub releasable_room : (count : ℕ) (area next : List ℕ) (p : ℕ) → Releasable count area next p → 2 * p + 1 < length area
-releasable_room count area next p r = omega (arith, in_range r.src r.circuit r.taken area next p r.running r.is-ready, r.running.room)
+releasable_room count area next p r = omega (arith, in_range r.src r.circuit r.taken area next p r.running r.is_ready, r.running.room)
 
 pub descend_none : (count : ℕ) (next : List ℕ) (p : ℕ) (area : List ℕ) (edge : ℕ) → Descended count next p area edge area edge
 descend_none count next p area edge src c taken start e run h rel = rel

@@ -94,7 +94,7 @@ module _ (start next keys : List ℕ) (count window taken : ℕ) (order area : L
           taken = take taken order;
           size = s.size;
           running = t.running;
-          is-ready = taking_ready s.src s.circuit keys next window taken order area t few p (rw s.size picked);
+          is_ready = taking_ready s.src s.circuit keys next window taken order area t few p (rw s.size picked);
         }
 
     pub took_more : taken < length order → (after : List ℕ) → Released count area next p after → Took start next keys count window (taken + 1) (set order taken p) after

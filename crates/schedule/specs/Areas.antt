@@ -127,7 +127,7 @@ pub record Releasable (count : ℕ) (area next : List ℕ) (p : ℕ) : Type 0 wh
   pub taken : List ℕ
   pub size : length circuit ≡ count
   pub running : Running src circuit taken area next
-  pub is-ready : ready circuit taken p ≡ true
+  pub is_ready : ready circuit taken p ≡ true
 
 -- whatever circuit the areas fitted, with p ready, they fit it with p taken
 abbrev pub Released : ℕ → List ℕ → List ℕ → ℕ → List ℕ → Type 0
@@ -199,6 +199,6 @@ pub record Orderable (nodes : List ℕ) (keys window ready successors order : �
   pub wired : Wired nodes (length nodes / 9)
   pub window_is : 1 ≤ window
   pub keys_are : keys ≡ 3 * (length nodes / 9)
-  pub ready-room : 3 * (length nodes / 9) ≤ ready
-  pub successor-room : 2 * (length nodes / 9) < successors
-  pub order-room : length nodes / 9 ≤ order
+  pub ready_room : 3 * (length nodes / 9) ≤ ready
+  pub successor_room : 2 * (length nodes / 9) < successors
+  pub order_room : length nodes / 9 ≤ order

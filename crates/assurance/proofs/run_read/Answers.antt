@@ -5,10 +5,10 @@ use lib.Seq.{length-take-le}
 use Rattle.assurance.proofs.run_read.Goals as goal
 
 pub returns-then-nodes-node_count : goal.returns-then-nodes-node_count
-returns-then-nodes-node_count c = record { carries = λ a b. absurd (omega (arith, a, c.if-nodes-node_count.true)); refuses_read = record { few_nodes = λ h. c.refuse_both.ensures; few_outputs = λ h. c.refuse_both.ensures; unordered = λ a b. absurd (omega (arith, a, c.if-nodes-node_count.true)) }; cleared = record { ready-is = c.refuse_both.ensures.ready-is; successors_are = c.refuse_both.ensures.successors_are; values_are = c.refuse_both.ensures.run.values_are } }
+returns-then-nodes-node_count c = record { carries = λ a b. absurd (omega (arith, a, c.if-nodes-node_count.true)); refuses_read = record { few_nodes = λ h. c.refuse_both.ensures; few_outputs = λ h. c.refuse_both.ensures; unordered = λ a b. absurd (omega (arith, a, c.if-nodes-node_count.true)) }; cleared = record { ready_is = c.refuse_both.ensures.ready_is; successors_are = c.refuse_both.ensures.successors_are; values_are = c.refuse_both.ensures.run.values_are } }
 
 pub returns-then-outputs-output_count : goal.returns-then-outputs-output_count
-returns-then-outputs-output_count c = record { carries = λ a b. absurd (omega (arith, b, c.if-outputs-output_count.true)); refuses_read = record { few_nodes = λ h. c.refuse_both-then-outputs-output_count.ensures; few_outputs = λ h. c.refuse_both-then-outputs-output_count.ensures; unordered = λ a b. absurd (omega (arith, b, c.if-outputs-output_count.true)) }; cleared = record { ready-is = c.refuse_both-then-outputs-output_count.ensures.ready-is; successors_are = c.refuse_both-then-outputs-output_count.ensures.successors_are; values_are = c.refuse_both-then-outputs-output_count.ensures.run.values_are } }
+returns-then-outputs-output_count c = record { carries = λ a b. absurd (omega (arith, b, c.if-outputs-output_count.true)); refuses_read = record { few_nodes = λ h. c.refuse_both-then-outputs-output_count.ensures; few_outputs = λ h. c.refuse_both-then-outputs-output_count.ensures; unordered = λ a b. absurd (omega (arith, b, c.if-outputs-output_count.true)) }; cleared = record { ready_is = c.refuse_both-then-outputs-output_count.ensures.ready_is; successors_are = c.refuse_both-then-outputs-output_count.ensures.successors_are; values_are = c.refuse_both-then-outputs-output_count.ensures.run.values_are } }
 
 pub slice_bounds-order_and_run-end : goal.slice_bounds-order_and_run-end
 slice_bounds-order_and_run-end c = sym (length-take-le (c.args.node_count * 9) c.args.nodes.now (omega (arith, c.if-nodes-node_count.false)))

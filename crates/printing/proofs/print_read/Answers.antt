@@ -10,10 +10,10 @@ pub overflow_mul-output_words : goal.overflow_mul-output_words
 overflow_mul-output_words g c = omega (arith, read_inside _ _ _ _ _ _ c.requires c.in-Circuit.is)
 
 pub slice_bounds-print_circuit-end : goal.slice_bounds-print_circuit-end
-slice_bounds-print_circuit-end g c = front_size _ _ (read_inside _ _ _ _ _ _ c.requires c.in-Circuit.is).node-words
+slice_bounds-print_circuit-end g c = front_size _ _ (read_inside _ _ _ _ _ _ c.requires c.in-Circuit.is).words_of_nodes
 
 pub slice_bounds-print_circuit-end-in-Circuit : goal.slice_bounds-print_circuit-end-in-Circuit
-slice_bounds-print_circuit-end-in-Circuit g c = front_size _ _ (read_inside _ _ _ _ _ _ c.requires c.in-Circuit.is).output-words
+slice_bounds-print_circuit-end-in-Circuit g c = front_size _ _ (read_inside _ _ _ _ _ _ c.requires c.in-Circuit.is).words_of_outputs
 
 pub print_circuit-requires : goal.print_circuit-requires
 print_circuit-requires g c = (c.requires.text_size, front_within (c.in-Circuit.n * 9) c.args.nodes.now 9216 c.requires.node_size)

@@ -6,8 +6,8 @@ use Rattle.assured.proofs.bench_text.assured_bench.Goals as goal
 
 pub returns-in-Refused : goal.returns-in-Refused
 returns-in-Refused c =
-    let p = refuses (bench c.args.text.now (length c.args.joined.now) (length c.args.nodes.now) (length c.args.names.now) (length c.args.outputs.now)) (length c.args.nodes.now) (length c.args.outputs.now) _ _ _ c.parse_bench-read.ensures.answer c.parse_bench-read.ensures.nodes_is c.parse_bench-read.ensures.outputs-is c.args.window c.args.keys.now c.args.assignment.now c.args.values.now _ _ _ _ _ c.refuse_both.result _ _ _ _ _ _ _ c.in-Refused.is c.refuse_both.ensures in record { leaves = leaves_answer c.args.text.now (bench c.args.text.now (length c.args.joined.now) (length c.args.nodes.now) (length c.args.names.now) (length c.args.outputs.now)) (length c.args.joined.now) (length c.args.nodes.now) (length c.args.names.now) (length c.args.outputs.now) _ _ _ _ _ c.parse_bench-read.ensures; assures = p.0; refuses = p.1; cleared = record { ready-is = c.refuse_both.ensures.ready-is; successors_are = c.refuse_both.ensures.successors_are; values_are = c.refuse_both.ensures.run.values_are } }
+    let p = refuses (bench c.args.text.now (length c.args.joined.now) (length c.args.nodes.now) (length c.args.names.now) (length c.args.outputs.now)) (length c.args.nodes.now) (length c.args.outputs.now) _ _ _ c.parse_bench-read.ensures.answer c.parse_bench-read.ensures.nodes_is c.parse_bench-read.ensures.outputs_is c.args.window c.args.keys.now c.args.assignment.now c.args.values.now _ _ _ _ _ c.refuse_both.result _ _ _ _ _ _ _ c.in-Refused.is c.refuse_both.ensures in record { leaves = leaves_answer c.args.text.now (bench c.args.text.now (length c.args.joined.now) (length c.args.nodes.now) (length c.args.names.now) (length c.args.outputs.now)) (length c.args.joined.now) (length c.args.nodes.now) (length c.args.names.now) (length c.args.outputs.now) _ _ _ _ _ c.parse_bench-read.ensures; assures = p.0; refuses = p.1; cleared = record { ready_is = c.refuse_both.ensures.ready_is; successors_are = c.refuse_both.ensures.successors_are; values_are = c.refuse_both.ensures.run.values_are } }
 
 pub returns-in-Circuit : goal.returns-in-Circuit
 returns-in-Circuit c =
-    let p = assures (bench c.args.text.now (length c.args.joined.now) (length c.args.nodes.now) (length c.args.names.now) (length c.args.outputs.now)) (length c.args.nodes.now) (length c.args.outputs.now) _ _ _ c.parse_bench-read.ensures.answer c.parse_bench-read.ensures.nodes_is c.parse_bench-read.ensures.outputs-is c.args.window c.args.keys.now c.args.assignment.now c.args.values.now _ _ _ _ _ c.run_read.result _ _ _ _ _ _ (bench-sound c.args.text.now (length c.args.joined.now) (length c.args.nodes.now) (length c.args.names.now) (length c.args.outputs.now)) _ _ c.in-Circuit.is c.run_read.ensures.carries c.run_read.ensures.refuses_read in record { leaves = leaves_answer c.args.text.now (bench c.args.text.now (length c.args.joined.now) (length c.args.nodes.now) (length c.args.names.now) (length c.args.outputs.now)) (length c.args.joined.now) (length c.args.nodes.now) (length c.args.names.now) (length c.args.outputs.now) _ _ _ _ _ c.parse_bench-read.ensures; assures = p.0; refuses = p.1; cleared = c.run_read.ensures.cleared }
+    let p = assures (bench c.args.text.now (length c.args.joined.now) (length c.args.nodes.now) (length c.args.names.now) (length c.args.outputs.now)) (length c.args.nodes.now) (length c.args.outputs.now) _ _ _ c.parse_bench-read.ensures.answer c.parse_bench-read.ensures.nodes_is c.parse_bench-read.ensures.outputs_is c.args.window c.args.keys.now c.args.assignment.now c.args.values.now _ _ _ _ _ c.run_read.result _ _ _ _ _ _ (bench-sound c.args.text.now (length c.args.joined.now) (length c.args.nodes.now) (length c.args.names.now) (length c.args.outputs.now)) _ _ c.in-Circuit.is c.run_read.ensures.carries c.run_read.ensures.refuses_read in record { leaves = leaves_answer c.args.text.now (bench c.args.text.now (length c.args.joined.now) (length c.args.nodes.now) (length c.args.names.now) (length c.args.outputs.now)) (length c.args.joined.now) (length c.args.nodes.now) (length c.args.names.now) (length c.args.outputs.now) _ _ _ _ _ c.parse_bench-read.ensures; assures = p.0; refuses = p.1; cleared = c.run_read.ensures.cleared }

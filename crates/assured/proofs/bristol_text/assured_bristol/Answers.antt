@@ -6,7 +6,7 @@ use Rattle.assured.proofs.bristol_text.assured_bristol.Goals as goal
 
 pub returns-in-Refused : goal.returns-in-Refused
 returns-in-Refused c =
-    let p = refuses (bristol_circuit c.args.text.now (length c.args.nodes.now) (length c.args.outputs.now) (length c.args.wires.now)) (length c.args.nodes.now) (length c.args.outputs.now) _ _ _ (answer_is c.args.text.now (length c.args.nodes.now) (length c.args.outputs.now) (length c.args.wires.now) _ _ _ _ c.parse_bristol-read.ensures) (nodes_are c.args.text.now (length c.args.nodes.now) (length c.args.outputs.now) (length c.args.wires.now) _ _ _ _ c.parse_bristol-read.ensures) (outputs_are c.args.text.now (length c.args.nodes.now) (length c.args.outputs.now) (length c.args.wires.now) _ _ _ _ c.parse_bristol-read.ensures) c.args.window c.args.keys.now c.args.assignment.now c.args.values.now _ _ _ _ _ c.refuse_both.result _ _ _ _ _ _ _ c.in-Refused.is c.refuse_both.ensures in record { leaves = same_contents c.args.text.now (length c.args.nodes.now) (length c.args.outputs.now) (length c.args.wires.now) _ _ _ _ c.parse_bristol-read.ensures; assures = p.0; refuses = p.1; cleared = record { ready-is = c.refuse_both.ensures.ready-is; successors_are = c.refuse_both.ensures.successors_are; values_are = c.refuse_both.ensures.run.values_are } }
+    let p = refuses (bristol_circuit c.args.text.now (length c.args.nodes.now) (length c.args.outputs.now) (length c.args.wires.now)) (length c.args.nodes.now) (length c.args.outputs.now) _ _ _ (answer_is c.args.text.now (length c.args.nodes.now) (length c.args.outputs.now) (length c.args.wires.now) _ _ _ _ c.parse_bristol-read.ensures) (nodes_are c.args.text.now (length c.args.nodes.now) (length c.args.outputs.now) (length c.args.wires.now) _ _ _ _ c.parse_bristol-read.ensures) (outputs_are c.args.text.now (length c.args.nodes.now) (length c.args.outputs.now) (length c.args.wires.now) _ _ _ _ c.parse_bristol-read.ensures) c.args.window c.args.keys.now c.args.assignment.now c.args.values.now _ _ _ _ _ c.refuse_both.result _ _ _ _ _ _ _ c.in-Refused.is c.refuse_both.ensures in record { leaves = same_contents c.args.text.now (length c.args.nodes.now) (length c.args.outputs.now) (length c.args.wires.now) _ _ _ _ c.parse_bristol-read.ensures; assures = p.0; refuses = p.1; cleared = record { ready_is = c.refuse_both.ensures.ready_is; successors_are = c.refuse_both.ensures.successors_are; values_are = c.refuse_both.ensures.run.values_are } }
 
 pub returns-in-Circuit : goal.returns-in-Circuit
 returns-in-Circuit c =

@@ -26,7 +26,7 @@ returns-then-p-eq2 c =
 
 pub add_named-requires : goal.add_named-requires
 add_named-requires c =
-    let e = wire_small c.args.p.first c.cell_node-node.result.first c.cell_node-node.ensures.first-is in
+    let e = wire_small c.args.p.first c.cell_node-node.result.first c.cell_node-node.ensures.first_is in
     let f = wire_small c.args.p.second c.cell_node-node.result.second c.cell_node-node.ensures.second_is in record { kept = c.requires.kept; len_in_bounds = c.requires.len_in_bounds.0; first_bound = (omega (arith, e, c.struct_known-1.given), omega (arith, f, c.struct_known-1.given)) }
 
 pub returns : goal.returns

@@ -8,7 +8,7 @@ use Rattle.blif.proofs.read.parse_blif.Goals as goal
 pub read_text-requires : goal.read_text-requires
 read_text-requires c =
     let r = rw c.in-Joined.is at c.prepare-prepared.ensures in
-    (r.nodes_is ∙ ap (λ (n : ℕ). replicate n 0) (sym c.prepare-prepared.auto.nodes), r.outputs-is ∙ ap (λ (n : ℕ). replicate n 0) (sym c.prepare-prepared.auto.outputs), r.joined_in.inside, r.short)
+    (r.nodes_is ∙ ap (λ (n : ℕ). replicate n 0) (sym c.prepare-prepared.auto.nodes), r.outputs_is ∙ ap (λ (n : ℕ). replicate n 0) (sym c.prepare-prepared.auto.outputs), r.joined_in.inside, r.short)
 
 pub returns-in-Refused : goal.returns-in-Refused
 returns-in-Refused c =

@@ -14,14 +14,14 @@ pub returns-in-Refused : goal.returns-in-Refused
 returns-in-Refused c =
     record {
       is = ended_refused (places_in (length c.args.nodes.now) (length c.args.names.now) (length c.args.outputs.now)) c.args.text.now c.read_lines-r.result.fault (state_of c.read_lines-r.new.nodes c.read_lines-r.new.names c.read_lines-r.new.outputs c.read_lines-r.result.counts c.read_lines-r.result.outputs) c.read_lines-r.ensures.outputs_after _ c.in-Refused.is;
-      nodes-kept = λ q. absurd (refused_sound q);
-      outputs-kept = λ q. absurd (refused_sound q);
+      nodes_kept = λ q. absurd (refused_sound q);
+      outputs_kept = λ q. absurd (refused_sound q);
     }
 
 pub returns-in-Sound : goal.returns-in-Sound
 returns-in-Sound c =
     record {
       is = c.resolve_outputs-f.ensures.is (nodes_of c.read_lines-r.new.nodes c.read_lines-r.result.counts.nodes) ∙ ended-sound (places_in (length c.args.nodes.now) (length c.args.names.now) (length c.args.outputs.now)) c.args.text.now c.read_lines-r.result.fault (state_of c.read_lines-r.new.nodes c.read_lines-r.new.names c.read_lines-r.new.outputs c.read_lines-r.result.counts c.read_lines-r.result.outputs) c.read_lines-r.ensures.outputs_after c.in-Sound.is;
-      nodes-kept = λ q. c.read_lines-r.ensures.kept_2.nodes;
-      outputs-kept = c.resolve_outputs-f.ensures.kept;
+      nodes_kept = λ q. c.read_lines-r.ensures.kept_2.nodes;
+      outputs_kept = c.resolve_outputs-f.ensures.kept;
     }

@@ -22,7 +22,7 @@ returns-then-rows-head c =
 
 pub put_wires-o-requires : goal.put_wires-o-requires
 put_wires-o-requires c =
-    (omega (arith, ap length c.requires.wires_zero ∙ length-replicate c.args.head.wires 0, c.read_gates-r.auto.wires), c.requires.outputs-empty)
+    (omega (arith, ap length c.requires.wires_zero ∙ length-replicate c.args.head.wires 0, c.read_gates-r.auto.wires), c.requires.outputs_empty)
 
 pub returns-in-Refused : goal.returns-in-Refused
 returns-in-Refused c =

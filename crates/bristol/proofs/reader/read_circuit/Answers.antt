@@ -46,7 +46,7 @@ read_clean-requires c =
       fits = g.fits;
       room = omega (arith, c.records_in-node_room.ensures, c.if-node_room-head.false);
       nodes_empty = zeros_hold encode_node 9 c.args.nodes.now c.requires.0;
-      outputs-empty = zeros_hold encode_output 5 c.args.outputs.now c.requires.1;
+      outputs_empty = zeros_hold encode_output 5 c.args.outputs.now c.requires.1;
       wires_zero = ap (take n) c.requires.2 ∙ take_zeros n (length c.args.wires.now) l;
     }
 

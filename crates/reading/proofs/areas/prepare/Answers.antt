@@ -17,5 +17,5 @@ returns-in-Sound c =
       short = joined_short c.args.text.now (length c.args.joined.now) _ _ _ sound c.logical_lines-used.ensures;
       joined_in = joined_in c.args.text.now (length c.args.joined.now) _ _ c.logical_lines-used.auto.joined (sound-fits c.args.text.now (length c.args.joined.now) sound) c.logical_lines-used.ensures;
       nodes_is = c.clear.ensures;
-      outputs-is = c.clear-in-Sound.ensures;
+      outputs_is = c.clear-in-Sound.ensures;
     }

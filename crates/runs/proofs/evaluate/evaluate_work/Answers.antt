@@ -13,12 +13,12 @@ use Rattle.runs.proofs.evaluate.evaluate_work.Goals as goal
 pub put_values-requires : goal.put_values-requires
 put_values-requires c =
     let p = told c.prepared.result c.prepared.ensures c.if-prepared.true in
-    (omega arith, p.store-room, p.values)
+    (omega arith, p.store_room, p.values)
 
 pub give-requires : goal.give-requires
 give-requires c =
     let p = told c.prepared.result c.prepared.ensures c.if-prepared.true in
-    (omega arith, p.answers_room, all_below_more (length c.args.nodes.now / 9) _ (omega (arith, p.store-room, c.put_values.auto.values)) (wires_in c.args.outputs.now) p.wired)
+    (omega arith, p.answers_room, all_below_more (length c.args.nodes.now / 9) _ (omega (arith, p.store_room, c.put_values.auto.values)) (wires_in c.args.outputs.now) p.wired)
 
 pub returns-then-put_values : goal.returns-then-put_values
 returns-then-put_values c =

@@ -13,8 +13,8 @@ pub returns-then-outputs-eq0 : goal.returns-then-outputs-eq0
 returns-then-outputs-eq0 c =
     record {
       whole_nodes = c.if-nodes-eq0.true;
-      whole-outputs = c.if-outputs-eq0.true;
-      store-room = omega arith;
+      whole_outputs = c.if-outputs-eq0.true;
+      store_room = omega arith;
       answers_room = omega arith;
       values = sym c.some_above.ensures ∙ c.if-some_above.false;
       wired = sym c.some_output_outside.ensures ∙ c.if-some_output_outside.false;

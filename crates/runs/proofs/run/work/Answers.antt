@@ -13,12 +13,12 @@ use Rattle.runs.proofs.run.work.Goals as goal
 pub run_store-requires : goal.run_store-requires
 run_store-requires c =
     let p = told c.prepared.result c.prepared.ensures c.if-prepared.true in
-    (omega arith, p.store-room, p.values, told c.lists_cells.result c.lists_cells.ensures c.if-lists_cells.true)
+    (omega arith, p.store_room, p.values, told c.lists_cells.result c.lists_cells.ensures c.if-lists_cells.true)
 
 pub give-requires : goal.give-requires
 give-requires c =
     let p = told c.prepared.result c.prepared.ensures c.if-prepared.true in
-    (omega arith, p.answers_room, all_below_more (length c.args.nodes.now / 9) _ (omega (arith, p.store-room, c.run_store.auto.values)) (wires_in c.args.outputs.now) p.wired)
+    (omega arith, p.answers_room, all_below_more (length c.args.nodes.now / 9) _ (omega (arith, p.store_room, c.run_store.auto.values)) (wires_in c.args.outputs.now) p.wired)
 
 pub returns-then-run_store : goal.returns-then-run_store
 returns-then-run_store c =
@@ -29,7 +29,7 @@ returns-then-run_store c =
       run_sound c.args.nodes.now c.args.outputs.now c.args.order.now c.args.assignment.now (length c.args.values.now) (length c.args.answers.now) p b.0 l b.1,
       λ e. (
         g.0 ∙ ap (λ (o : List ℕ). o ++ replicate (length c.args.answers.now - length c.args.outputs.now / 5) 0)
-            (run_gives c.args.nodes.now c.args.outputs.now c.args.order.now c.args.assignment.now (length c.args.values.now) (length c.args.answers.now) p b.0 l b.1 _ c.args.values.now (c.run_store.ensures.1 c.if-run_store.true) p.store-room),
+            (run_gives c.args.nodes.now c.args.outputs.now c.args.order.now c.args.assignment.now (length c.args.values.now) (length c.args.answers.now) p b.0 l b.1 _ c.args.values.now (c.run_store.ensures.1 c.if-run_store.true) p.store_room),
         g.1 ∙ ap (λ (n : ℕ). replicate n 0) c.run_store.auto.values,
       ),
     )
