@@ -27,7 +27,7 @@ returns-then-p-eq2 c =
 pub add_named-requires : goal.add_named-requires
 add_named-requires c =
     let e = wire_small c.args.p.first c.cell_node-node.result.first c.cell_node-node.ensures.first_is in
-    let f = wire_small c.args.p.second c.cell_node-node.result.second c.cell_node-node.ensures.second_is in record { kept = c.requires.kept; len_in_bounds = c.requires.len_in_bounds.0; first_bound = (omega (arith, e, c.struct_known-1.given), omega (arith, f, c.struct_known-1.given)) }
+    let f = wire_small c.args.p.second c.cell_node-node.result.second c.cell_node-node.ensures.second_is in record { kept = c.requires.kept; len_in_bounds = c.requires.len_in_bounds.0; first_bound = (omega (arith, e), omega (arith, f)) }
 
 pub returns : goal.returns
 returns c = record { kept_2 = c.add_named.ensures.kept_2; counts_after = c.add_named.ensures.counts_after ∙ put-cell c.args.p c.cell_node-node.result _ _ c.requires.len_in_bounds.1 c.cell_node-node.ensures c.if-p-eq0.false (λ i t. elim c.if-p-eq1.branch [ then-p-eq1+else-p-eq2 w ↦ w.if-p-eq2.false t | else-p-eq1 w ↦ w.if-p-eq1.false i ]) }

@@ -3,7 +3,6 @@ use mathlib.Core.Path.{sym, ap, ◌∙◌}
 use native.Mathlib.Omega.{arith}
 use mathlib.Core.List.{List}
 use lib.ListN.{get_or}
-use borrow.Author.Tests.{not-true, not-false}
 use Rattle.laws.proofs.Stretches.{rest_start}
 use Rattle.cover.specs.Cover.{matches, fits}
 use Rattle.cover.proofs.RowLaws.{match_step, match_not, match_end}
@@ -32,7 +31,7 @@ byte_fits-requires c = omega arith
 
 pub returns-then-not-byte_fits : goal.returns-then-not-byte_fits
 returns-then-not-byte_fits c =
-    match_not c.args.text.now c.args.start c.args.inputs c.loop-i.i c.args.j (omega arith) (omega arith) (sym (c.byte_fits.ensures ∙ ap (fits (get_or c.args.text.now (c.args.start + c.loop-i.i) 0)) c.table_entry-bit.ensures) ∙ not-true _ c.if-not-byte_fits.true-raw) ∙ c.loop-i.invariant.1
+    match_not c.args.text.now c.args.start c.args.inputs c.loop-i.i c.args.j (omega arith) (omega arith) (sym (c.byte_fits.ensures ∙ ap (fits (get_or c.args.text.now (c.args.start + c.loop-i.i) 0)) c.table_entry-bit.ensures) ∙ c.if-not-byte_fits.true) ∙ c.loop-i.invariant.1
 
 pub overflow_add-i : goal.overflow_add-i
 overflow_add-i c = omega arith
@@ -42,7 +41,7 @@ loop-i-smaller c = omega arith
 
 pub loop-i-preserved : goal.loop-i-preserved
 loop-i-preserved c =
-    (omega arith, match_step c.args.text.now c.args.start c.args.inputs c.loop-i.i c.args.j (omega arith) (omega arith) (sym (c.byte_fits.ensures ∙ ap (fits (get_or c.args.text.now (c.args.start + c.loop-i.i) 0)) c.table_entry-bit.ensures) ∙ not-false _ c.if-not-byte_fits.false-raw) ∙ c.loop-i.invariant.1)
+    (omega arith, match_step c.args.text.now c.args.start c.args.inputs c.loop-i.i c.args.j (omega arith) (omega arith) (sym (c.byte_fits.ensures ∙ ap (fits (get_or c.args.text.now (c.args.start + c.loop-i.i) 0)) c.table_entry-bit.ensures) ∙ c.if-not-byte_fits.false) ∙ c.loop-i.invariant.1)
 
 pub returns : goal.returns
 returns c =

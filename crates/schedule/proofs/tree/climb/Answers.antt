@@ -3,7 +3,7 @@ use native.Mathlib.Omega.{arith}
 use lib.ListN.{length-set}
 use Rattle.schedule.specs.Schedule.{key_at}
 use Rattle.schedule.specs.Tree.{Joined}
-use Rattle.schedule.proofs.Climb.{join_turn, join-stop, join_needs, leaves_then, not_taken}
+use Rattle.schedule.proofs.Climb.{join_turn, join-stop, join_needs, leaves_then}
 use Rattle.schedule.proofs.tree.climb.Goals as goal
 
 pub loop-v-init : goal.loop-v-init
@@ -16,7 +16,7 @@ pub shape_of-tree-then-not-join : goal.shape_of-tree-then-not-join
 shape_of-tree-then-not-join c = c.join.auto.tree ∙ c.loop-v.invariant.3
 
 pub returns-then-not-join : goal.returns-then-not-join
-returns-then-not-join c = rw c.join.ensures.0 (join-stop _ _ _ _ _ (omega (arith, c.loop-v-test.true)) c.loop-v.invariant.1 (sym c.join.ensures.1 ∙ not_taken c.join.result c.if-not-join.true-raw) c.loop-v.invariant.0, leaves_then (key_at c.args.keys.now) c.args.leaves c.args.nodes c.loop-v.tree c.loop-v.v (omega (arith, c.loop-v-test.true)) c.loop-v.invariant.1 c.args.tree.now c.loop-v.invariant.2)
+returns-then-not-join c = rw c.join.ensures.0 (join-stop _ _ _ _ _ (omega (arith, c.loop-v-test.true)) c.loop-v.invariant.1 (sym c.join.ensures.1 ∙ c.if-not-join.true) c.loop-v.invariant.0, leaves_then (key_at c.args.keys.now) c.args.leaves c.args.nodes c.loop-v.tree c.loop-v.v (omega (arith, c.loop-v-test.true)) c.loop-v.invariant.1 c.args.tree.now c.loop-v.invariant.2)
 
 pub loop-v-smaller : goal.loop-v-smaller
 loop-v-smaller c = omega (arith, c.loop-v-test.true)

@@ -1,6 +1,5 @@
 use mathlib.Core.Path.{refl, sym, ◌∙◌}
 use native.Mathlib.Omega.{arith}
-use borrow.Author.Tests.{not-true, not-false}
 use Rattle.text.specs.Blanks.{is_blank}
 use Rattle.laws.proofs.Stretches.{run_on, run-stop, run_end}
 use Rattle.text.proofs.blanks.skip_blanks.Goals as goal
@@ -16,7 +15,7 @@ is_blank-requires c = tt
 
 pub returns-then-not-is_blank : goal.returns-then-not-is_blank
 returns-then-not-is_blank c =
-    (run-stop is_blank c.args.text.now c.loop-i.i c.args.end (omega arith) (omega arith) (sym c.is_blank.ensures ∙ not-true _ c.if-not-is_blank.true-raw) ∙ c.loop-i.invariant.2, c.loop-i.invariant.1)
+    (run-stop is_blank c.args.text.now c.loop-i.i c.args.end (omega arith) (omega arith) (sym c.is_blank.ensures ∙ c.if-not-is_blank.true) ∙ c.loop-i.invariant.2, c.loop-i.invariant.1)
 
 pub overflow_add-i : goal.overflow_add-i
 overflow_add-i c = omega arith
@@ -26,7 +25,7 @@ loop-i-smaller c = omega arith
 
 pub loop-i-preserved : goal.loop-i-preserved
 loop-i-preserved c =
-    (omega arith, omega arith, run_on is_blank c.args.text.now c.loop-i.i c.args.end (omega arith) (omega arith) (sym c.is_blank.ensures ∙ not-false _ c.if-not-is_blank.false-raw) ∙ c.loop-i.invariant.2)
+    (omega arith, omega arith, run_on is_blank c.args.text.now c.loop-i.i c.args.end (omega arith) (omega arith) (sym c.is_blank.ensures ∙ c.if-not-is_blank.false) ∙ c.loop-i.invariant.2)
 
 pub returns : goal.returns
 returns c =

@@ -1,7 +1,6 @@
 use Prim.Native.Nat.{ℕ}
 use mathlib.Core.Path.{◌≡◌, refl, sym, ap, ◌∙◌}
 use native.Mathlib.Omega.{arith}
-use borrow.Author.Tests.{not-true, not-false}
 use Rattle.laws.specs.Stretches.{stretch}
 use Rattle.text.specs.Blanks.{trim_end}
 use Rattle.text.proofs.BlankLaws.{end_blank, end_kept, end_none}
@@ -24,7 +23,7 @@ is_blank-requires c = tt
 
 pub returns-then-not-is_blank : goal.returns-then-not-is_blank
 returns-then-not-is_blank c =
-    (end_kept c.args.text.now c.args.start c.loop-n.n (omega arith) (omega arith) (sym c.is_blank.ensures ∙ not-true _ c.if-not-is_blank.true-raw) ∙ c.loop-n.invariant.1, c.loop-n.invariant.0)
+    (end_kept c.args.text.now c.args.start c.loop-n.n (omega arith) (omega arith) (sym c.is_blank.ensures ∙ c.if-not-is_blank.true) ∙ c.loop-n.invariant.1, c.loop-n.invariant.0)
 
 pub overflow_sub-n : goal.overflow_sub-n
 overflow_sub-n c = omega arith
@@ -34,7 +33,7 @@ loop-n-smaller c = omega arith
 
 pub loop-n-preserved : goal.loop-n-preserved
 loop-n-preserved c =
-    (omega arith, end_blank c.args.text.now c.args.start c.loop-n.n (omega arith) (omega arith) (sym c.is_blank.ensures ∙ not-false _ c.if-not-is_blank.false-raw) ∙ c.loop-n.invariant.1)
+    (omega arith, end_blank c.args.text.now c.args.start c.loop-n.n (omega arith) (omega arith) (sym c.is_blank.ensures ∙ c.if-not-is_blank.false) ∙ c.loop-n.invariant.1)
 
 pub returns : goal.returns
 returns c =
