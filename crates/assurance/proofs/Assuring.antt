@@ -1,5 +1,6 @@
 -- Demand 3, proved over the definitions for every circuit that the circuit check accepts.
 -- Assumes nothing.
+use Rattle.std.specs.Prelude.{Ok}
 use Prim.Native.Nat.{ℕ, ◌+◌, ◌*◌, ◌/◌}
 use mathlib.Core.Path.{◌≡◌, sym, ap, ◌∙◌}
 use mathlib.Core.Bool.{true, false}
@@ -8,7 +9,6 @@ use native.Mathlib.Omega.{arith}
 use borrow.Author.Tests.{eq-eqb, ne_eqb, le-leb}
 use lib.ListN.{length}
 use Rattle.laws.proofs.Areas.{length-encodes}
-use Rattle.circuit.specs.declared.refusals.Checked.TheVariants.{Sound}
 use Rattle.circuit.specs.declared.records.Output.{Output}
 use Rattle.circuit.specs.Records.{encode_node, encode_output, nodes_of, output_wires}
 use Rattle.circuit.specs.Check.{nodes_in, wires_in, check_circuit, topological_fault}
@@ -52,14 +52,14 @@ module _ (c : Circuit) where
       ap (output_wires (output_records c)) output_count ∙ wires_of_outputs (output_records c) (length c.outputs)
       ∙ ap (map (λ (o : Output). o.wire)) (outputs_of_area (output_records c) c.outputs [] (sym (append-nil (output_records c))))
 
-  pub topological : check_circuit c.nodes (wires_out c) ≡ Sound → topological_fault (node_records c) (output_records c) ≡ Sound
+  pub topological : check_circuit c.nodes (wires_out c) ≡ Ok tt → topological_fault (node_records c) (output_records c) ≡ Ok tt
   unfolding topological_fault
   topological e = rw (is_whole (node_records c) (output_records c) (omega (arith, node_length)) (omega (arith, output_length)), nodes-in, wires-in, e)
 
 -- ---- demand 3
 
 module _ (c : Circuit) (window : ℕ) (keys assignment old : List ℕ) (ready successors order answers : ℕ)
-    (checks : check_circuit c.nodes (wires_out c) ≡ Sound) (lent : Lent c window keys assignment old ready successors order answers) where
+    (checks : check_circuit c.nodes (wires_out c) ≡ Ok tt) (lent : Lent c window keys assignment old ready successors order answers) where
   pub graph-in : graph_in (node_records c) (length (node_records c) / 9) ≡ graph_of c.nodes
   unfolding graph_in
   graph-in = ap graph_of (nodes-in c)
@@ -74,7 +74,7 @@ module _ (c : Circuit) (window : ℕ) (keys assignment old : List ℕ) (ready su
       rw (node_count c, le-leb (3 * length c.nodes) ready lent.ready_room, le-leb (2 * length c.nodes + 1) successors lent.successors_room)
       (le-leb (length c.nodes) order lent.order_room)
 
-  call_sound : call_fault (node_records c) (output_records c) window keys ready successors order ≡ Sound
+  call_sound : call_fault (node_records c) (output_records c) window keys ready successors order ≡ Ok tt
   unfolding call_fault
   call_sound =
       let n : 3 * (length (node_records c) / 9) ≡ 3 * length c.nodes = ap (λ (k : ℕ). 3 * k) (node_count c) in
@@ -88,7 +88,7 @@ module _ (c : Circuit) (window : ℕ) (keys assignment old : List ℕ) (ready su
   promise : Promised (node_records c) (output_records c) window keys ready successors order
   promise = promised (node_records c) (output_records c) window keys ready successors order call_sound
 
-  pub accepted : schedule_fault (node_records c) (output_records c) window keys ready successors order ≡ Sound
+  pub accepted : schedule_fault (node_records c) (output_records c) window keys ready successors order ≡ Ok tt
   accepted = promise.validated (topological c checks)
 
   ordered : InOrder (graph_of c.nodes) (order_of c window keys)
@@ -104,14 +104,14 @@ module _ (c : Circuit) (window : ℕ) (keys assignment old : List ℕ) (ready su
   unfolding fit_list
   fits = rw (schedule_fit (graph_of c.nodes) window (key_at keys), eq-eqb (length (order_of c window keys)) (length (cells_of (graph_of c.nodes))) number)
 
-  roomy : Sound ≡ room_fault (node_records c) (output_records c) (length old) answers
+  roomy : (Ok tt) ≡ room_fault (node_records c) (output_records c) (length old) answers
   roomy = has_room (node_records c) (output_records c) (length old) answers (omega (arith, node_count c, lent.store_room)) (omega (arith, output_count c, lent.answers_room))
 
-  runs : run_fault (node_records c) (output_records c) (order_of c window keys) assignment (length old) answers ≡ Sound
+  runs : run_fault (node_records c) (output_records c) (order_of c window keys) assignment (length old) answers ≡ Ok tt
   unfolding run_fault assignment_fault order_fault
   runs = rw (topological c checks, nodes-in c, lent.values_are, fits) (sym roomy)
 
-  evaluable : wrong_assignment 1 c.nodes assignment ≡ false → evaluate_fault (node_records c) (output_records c) assignment (length old) answers ≡ Sound
+  evaluable : wrong_assignment 1 c.nodes assignment ≡ false → evaluate_fault (node_records c) (output_records c) assignment (length old) answers ≡ Ok tt
   unfolding evaluate_fault assignment_fault
   evaluable e = rw (topological c checks, nodes-in c, e) (sym roomy)
 

@@ -1,5 +1,7 @@
 -- What the composed call answers and leaves, from the contracts of the calls under it.
 -- Assumes nothing.
+use Rattle.circuit.specs.Refusals.{Try}
+use Rattle.std.specs.Prelude.{Err, Ok}
 use Prim.Native.Nat.{ℕ, ◌-◌, ◌≤◌}
 use mathlib.Core.Path.{◌≡◌, refl, sym, ap, ap₂, ◌∙◌, subst}
 use mathlib.Core.Bool.{false}
@@ -8,17 +10,12 @@ use native.Mathlib.Omega.{arith}
 use lib.ListN.{length, take, replicate, length-append}
 use lib.Seq.{take_at}
 use Rattle.circuit.specs.declared.refusals.Refusal.{Refusal}
-use Rattle.circuit.specs.declared.refusals.Checked.TheVariants.{Sound}
 use Rattle.circuit.specs.Check.{check_circuit}
 use Rattle.circuit.specs.Graph.{cells_of, graph_of}
 use Rattle.circuit.specs.Circuits.{Circuit, filled}
-use Rattle.schedule.specs.declared.Ordered.{Ordered}
-use Rattle.schedule.specs.declared.Ordered.TheVariants.{Cells, Refused as Unordered}
 use Rattle.schedule.specs.Call.{Left, leaves, schedule_call}
-use Rattle.runs.specs.declared.run.Ran.{Ran}
-use Rattle.runs.specs.declared.run.Ran.TheVariants.{Cells as RanCells, Refused as NotRun}
 use Rattle.runs.specs.Runs.{wrong_assignment}
-use Rattle.runs.specs.Calls.{Result, leaves as result_of, ran_result, evaluated_result, run_call, evaluate_call}
+use Rattle.runs.specs.Calls.{Result, leaves as result_of, call_result, run_call, evaluate_call}
 use Rattle.assurance.specs.declared.Both.{Both}
 use Rattle.assurance.specs.Assurance.{wires_out, node_records, output_records, order_of, outputs_of, Lent, Assured}
 use Rattle.assurance.specs.Carried.{RanThenEvaluated, Carried}
@@ -26,21 +23,21 @@ use Rattle.assurance.proofs.Assuring.{output_count, nodes-in, wires-in, graph-in
 
 -- ---- the run, then `evaluate`
 
-ran_number : (r : Ran) (v a : List ℕ) → (ran_result r [] []).number ≡ (ran_result r v a).number
-ran_number (RanCells n) v a = refl
-ran_number (NotRun e) v a = refl
+ran_number : (r : Try ℕ) (v a : List ℕ) → (call_result r [] []).number ≡ (call_result r v a).number
+ran_number (Ok n) v a = refl
+ran_number (Err e) v a = refl
 
-ran_count : (r : Ran) (v a : List ℕ) → (ran_result r [] []).count ≡ (ran_result r v a).count
-ran_count (RanCells n) v a = refl
-ran_count (NotRun e) v a = refl
+ran_count : (r : Try ℕ) (v a : List ℕ) → (call_result r [] []).count ≡ (call_result r v a).count
+ran_count (Ok n) v a = refl
+ran_count (Err e) v a = refl
 
-ran_outputs : (r : Ran) (v a : List ℕ) → a ≡ (ran_result r v a).outputs
-ran_outputs (RanCells n) v a = refl
-ran_outputs (NotRun e) v a = refl
+ran_outputs : (r : Try ℕ) (v a : List ℕ) → a ≡ (call_result r v a).outputs
+ran_outputs (Ok n) v a = refl
+ran_outputs (Err e) v a = refl
 
 pub ran-then-evaluated : (nodes outputs order assignment old answers evaluates : List ℕ) (r : Both) (mid values' answers' evaluated' : List ℕ)
-    → ran_result r.ran mid answers' ≡ run_call nodes outputs order assignment old answers → length mid ≡ length old
-    → evaluated_result r.evaluated values' evaluated' ≡ evaluate_call nodes outputs assignment mid evaluates
+    → call_result r.ran mid answers' ≡ run_call nodes outputs order assignment old answers → length mid ≡ length old
+    → call_result r.evaluated values' evaluated' ≡ evaluate_call nodes outputs assignment mid evaluates
     → RanThenEvaluated nodes outputs order assignment old answers evaluates r values' answers' evaluated'
 unfolding evaluate_call
 ran-then-evaluated nodes outputs order assignment old answers evaluates r mid values' answers' evaluated' p l q = record {
@@ -53,10 +50,10 @@ ran-then-evaluated nodes outputs order assignment old answers evaluates r mid va
 -- ---- the schedule before it
 
 module _ (c : Circuit) (window : ℕ) (keys assignment old ready successors order : List ℕ) (answers : ℕ)
-    (checks : check_circuit c.nodes (wires_out c) ≡ Sound)
+    (checks : check_circuit c.nodes (wires_out c) ≡ Ok tt)
     (lent : Lent c window keys assignment old (length ready) (length successors) (length order) answers) where
   call_is : schedule_call (node_records c) (output_records c) window keys ready successors order
-      ≡ leaves (Cells (length (cells_of (graph_of c.nodes)))) (replicate (length ready) 0) (replicate (length successors) 0) (filled (order_of c window keys) (length order))
+      ≡ leaves (Ok (length (cells_of (graph_of c.nodes)))) (replicate (length ready) 0) (replicate (length successors) 0) (filled (order_of c window keys) (length order))
   unfolding schedule_call
   call_is =
       rw (
@@ -65,16 +62,16 @@ module _ (c : Circuit) (window : ℕ) (keys assignment old ready successors orde
         order-in c window keys assignment old (length ready) (length successors) (length order) answers checks lent,
       )
 
-  pub not_refused : (e : Refusal) (x y z : List ℕ) → leaves (Unordered e) x y z ≡ schedule_call (node_records c) (output_records c) window keys ready successors order → ⊥
+  pub not_refused : (e : Refusal) (x y z : List ℕ) → leaves (Err e) x y z ≡ schedule_call (node_records c) (output_records c) window keys ready successors order → ⊥
   not_refused e x y z q =
-      let a : Unordered e ≡ Cells (length (cells_of (graph_of c.nodes))) = ap (λ (l : Left). l.answer) (q ∙ call_is) in
+      let a : Err e ≡ Ok (length (cells_of (graph_of c.nodes))) = ap (λ (l : Left). l.answer) (q ∙ call_is) in
       let o : ◌≡◌ {A = ℕ} 0 1 = cc in
       omega arith
 
-  module _ (cells : ℕ) (x y z : List ℕ) (q : leaves (Cells cells) x y z ≡ schedule_call (node_records c) (output_records c) window keys ready successors order) where
+  module _ (cells : ℕ) (x y z : List ℕ) (q : leaves (Ok cells) x y z ≡ schedule_call (node_records c) (output_records c) window keys ready successors order) where
     cells_are : cells ≡ length (cells_of (graph_of c.nodes))
     cells_are =
-        let a : Cells cells ≡ Cells (length (cells_of (graph_of c.nodes))) = ap (λ (l : Left). l.answer) (q ∙ call_is) in
+        let a : Ok cells ≡ Ok (length (cells_of (graph_of c.nodes))) = ap (λ (l : Left). l.answer) (q ∙ call_is) in
         cc
 
     pub order-area : z ≡ filled (order_of c window keys) (length order)
@@ -131,22 +128,22 @@ module _ (c : Circuit) (window : ℕ) (keys assignment old ready successors orde
 -- ---- the same of slices that hold the circuit's records
 
 module _ (c : Circuit) (window : ℕ) (keys assignment old ready successors order answer evaluates nodes outputs : List ℕ)
-    (p : nodes ≡ node_records c) (q : outputs ≡ output_records c) (checks : check_circuit c.nodes (wires_out c) ≡ Sound)
+    (p : nodes ≡ node_records c) (q : outputs ≡ output_records c) (checks : check_circuit c.nodes (wires_out c) ≡ Ok tt)
     (lent : Lent c window keys assignment old (length ready) (length successors) (length order) (length answer))
-    (r : Ordered) (x y z : List ℕ) (call : leaves r x y z ≡ schedule_call nodes outputs window keys ready successors order) where
-  as_is : (a : Ordered) → r ≡ a → leaves a x y z ≡ schedule_call (node_records c) (output_records c) window keys ready successors order
+    (r : Try ℕ) (x y z : List ℕ) (call : leaves r x y z ≡ schedule_call nodes outputs window keys ready successors order) where
+  as_is : (a : Try ℕ) → r ≡ a → leaves a x y z ≡ schedule_call (node_records c) (output_records c) window keys ready successors order
   as_is a e =
-      ap (λ (b : Ordered). leaves b x y z) (sym e) ∙ call
+      ap (λ (b : Try ℕ). leaves b x y z) (sym e) ∙ call
       ∙ ap₂ (λ (n o : List ℕ). schedule_call n o window keys ready successors order) p q
 
-  pub never_refused : (e : Refusal) → r ≡ Unordered e → ⊥
-  never_refused e h = not_refused c window keys assignment old ready successors order (length answer) checks lent e x y z (as_is (Unordered e) h)
+  pub never_refused : (e : Refusal) → r ≡ Err e → ⊥
+  never_refused e h = not_refused c window keys assignment old ready successors order (length answer) checks lent e x y z (as_is (Err e) h)
 
-  pub carried_by : (cells : ℕ) → r ≡ Cells cells → length c.outputs ≤ length evaluates → (b : Both) (values' answers' evaluated' : List ℕ)
+  pub carried_by : (cells : ℕ) → r ≡ Ok cells → length c.outputs ≤ length evaluates → (b : Both) (values' answers' evaluated' : List ℕ)
       → (cells ≤ length z → RanThenEvaluated nodes outputs (take cells z) assignment old answer evaluates b values' answers' evaluated')
       → Carried c window keys assignment old (length ready) (length successors) (length order) (length answer) (length evaluates) b z values' answers' evaluated'
   carried_by cells h room b values' answers' evaluated' ran =
-      let call' = as_is (Cells cells) h in
+      let call' = as_is (Ok cells) h in
       let fits = inside c window keys assignment old ready successors order (length answer) checks lent cells x y z call' in
       carried c window keys assignment old ready successors order (length answer) checks lent cells x y z call' answer evaluates refl room b values' answers' evaluated'
       (subst (λ (o : List ℕ). RanThenEvaluated (node_records c) o (take cells z) assignment old answer evaluates b values' answers' evaluated') q

@@ -1,26 +1,23 @@
 -- What the composed call answers and leaves where the schedule refuses, and that its work areas are zeros, from the contracts of the calls under it.
 -- Assumes nothing.
+use Rattle.circuit.specs.Refusals.{Try}
+use Rattle.std.specs.Prelude.{Err, Ok}
 use Prim.Native.Nat.{ℕ}
 use mathlib.Core.Path.{◌≡◌, refl, sym, ap, ◌∙◌, subst}
 use mathlib.Core.List.{List}
 use native.Mathlib.Omega.{arith}
 use lib.ListN.{length, replicate}
 use Rattle.circuit.specs.declared.refusals.Refusal.{Refusal}
-use Rattle.circuit.specs.declared.refusals.Checked.{Checked}
-use Rattle.circuit.specs.declared.refusals.Checked.TheVariants.{Sound, Refused}
-use Rattle.schedule.specs.declared.Ordered.{Ordered}
-use Rattle.schedule.specs.declared.Ordered.TheVariants.{Cells, Refused as Unordered}
+use Rattle.circuit.specs.Refusals.{Checked}
 use Rattle.schedule.specs.Call.{Left, leaves, schedule_fault, schedule_call}
-use Rattle.runs.specs.declared.evaluate.Evaluated.{Evaluated}
-use Rattle.runs.specs.declared.evaluate.Evaluated.TheVariants.{Outputs, Refused as NotEvaluated}
-use Rattle.runs.specs.Calls.{Result, leaves as gives, evaluate_fault, evaluate_call, evaluated_result}
+use Rattle.runs.specs.Calls.{Result, leaves as gives, evaluate_fault, evaluate_call, call_result}
 use Rattle.assurance.specs.declared.Both.{Both}
 use Rattle.assurance.specs.Carried.{RanThenEvaluated}
 use Rattle.assurance.specs.Refused.{RefusedRun, RefusedBoth}
 
 -- ---- work areas
 
-module _ (nodes outputs : List ℕ) (window : ℕ) (keys ready successors order : List ℕ) (r : Ordered) (x y z : List ℕ) (call : leaves r x y z ≡ schedule_call nodes outputs window keys ready successors order) where
+module _ (nodes outputs : List ℕ) (window : ℕ) (keys ready successors order : List ℕ) (r : Try ℕ) (x y z : List ℕ) (call : leaves r x y z ≡ schedule_call nodes outputs window keys ready successors order) where
   pub ready_cleared : x ≡ replicate (length ready) 0
   unfolding schedule_call
   ready_cleared = ap (λ (l : Left). l.ready) call
@@ -31,14 +28,14 @@ module _ (nodes outputs : List ℕ) (window : ℕ) (keys ready successors order 
 
 left_store : (f : Checked) (count : ℕ) (outputs : List ℕ) (store answers : ℕ) → (gives f count outputs store answers).store ≡ replicate store 0
 unfolding gives
-left_store Sound count outputs store answers = refl
-left_store (Refused e) count outputs store answers = refl
+left_store (Ok u) count outputs store answers = refl
+left_store (Err e) count outputs store answers = refl
 
-result-store : (e : Evaluated) (s outputs : List ℕ) → (evaluated_result e s outputs).store ≡ s
-result-store (Outputs n) s outputs = refl
-result-store (NotEvaluated e) s outputs = refl
+result-store : (e : Try ℕ) (s outputs : List ℕ) → (call_result e s outputs).store ≡ s
+result-store (Ok n) s outputs = refl
+result-store (Err e) s outputs = refl
 
-store_cleared : (nodes outputs assignment old answers : List ℕ) (e : Evaluated) (s z : List ℕ) → evaluated_result e s z ≡ evaluate_call nodes outputs assignment old answers → s ≡ replicate (length old) 0
+store_cleared : (nodes outputs assignment old answers : List ℕ) (e : Try ℕ) (s z : List ℕ) → call_result e s z ≡ evaluate_call nodes outputs assignment old answers → s ≡ replicate (length old) 0
 unfolding evaluate_call
 store_cleared nodes outputs assignment old answers e s z call =
     sym (result-store e s z) ∙ ap (λ (l : Result). l.store) call
@@ -51,28 +48,28 @@ ran_cleared nodes outputs order assignment old answers evaluated r values' answe
 
 -- ---- a refusal of the schedule
 
-module _ (nodes outputs : List ℕ) (window : ℕ) (keys ready successors order : List ℕ) (r : Ordered) (x y z : List ℕ)
+module _ (nodes outputs : List ℕ) (window : ℕ) (keys ready successors order : List ℕ) (r : Try ℕ) (x y z : List ℕ)
     (call : leaves r x y z ≡ schedule_call nodes outputs window keys ready successors order)
-    (e : Refusal) (fault : schedule_fault nodes outputs window keys (length ready) (length successors) (length order) ≡ Refused e) where
-  left : leaves r x y z ≡ leaves (Unordered e) (replicate (length ready) 0) (replicate (length successors) 0) (replicate (length order) 0)
+    (e : Refusal) (fault : schedule_fault nodes outputs window keys (length ready) (length successors) (length order) ≡ Err e) where
+  left : leaves r x y z ≡ leaves (Err e) (replicate (length ready) 0) (replicate (length successors) 0) (replicate (length order) 0)
   unfolding schedule_call
   left = rw fault at call
 
-  answer_is : r ≡ Unordered e
+  answer_is : r ≡ Err e
   answer_is = ap (λ (l : Left). l.answer) left
 
-  pub never_ordered : (cells : ℕ) → r ≡ Cells cells → ⊥
+  pub never_ordered : (cells : ℕ) → r ≡ Ok cells → ⊥
   never_ordered cells h =
-      let a : Cells cells ≡ Unordered e = sym h ∙ answer_is in
+      let a : Ok cells ≡ Err e = sym h ∙ answer_is in
       let o : ◌≡◌ {A = ℕ} 0 1 = cc in
       omega arith
 
   -- the refusal with which nothing was run is the schedule's
-  pub refused_unordered : (f : Refusal) → r ≡ Unordered f → (values answers evaluated : ℕ) (b : Both) (values' answers' evaluated' : List ℕ)
+  pub refused_unordered : (f : Refusal) → r ≡ Err f → (values answers evaluated : ℕ) (b : Both) (values' answers' evaluated' : List ℕ)
       → RefusedRun f values answers evaluated b values' answers' evaluated'
       → RefusedBoth e (length ready) (length successors) (length order) values answers evaluated b x y z values' answers' evaluated'
   refused_unordered f h values answers evaluated b values' answers' evaluated' run =
-      let a : Unordered f ≡ Unordered e = sym h ∙ answer_is in
+      let a : Err f ≡ Err e = sym h ∙ answer_is in
       let same : f ≡ e = cc in
       record {
         run = subst (λ (g : Refusal). RefusedRun g values answers evaluated b values' answers' evaluated') same run;

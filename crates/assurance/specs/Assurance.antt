@@ -1,8 +1,7 @@
 -- Demand 3, for a circuit that a reader gave: what the schedule, the run and `evaluate` then do.
 -- Assumes nothing.
-use Rattle.std.specs.Prelude.{ℕ, ◌+◌, ◌*◌, ◌≤◌, ◌<◌, ◌≡◌, false, List, map, length, get_or}
+use Rattle.std.specs.Prelude.{ℕ, ◌+◌, ◌*◌, ◌≤◌, ◌<◌, ◌≡◌, false, List, map, length, get_or, Ok}
 use Rattle.laws.specs.Areas.{encodes}
-use Rattle.circuit.specs.declared.refusals.Checked.TheVariants.{Sound}
 use Rattle.circuit.specs.declared.records.BoolWire.{BoolWire}
 use Rattle.circuit.specs.declared.records.Output.{Output}
 use Rattle.circuit.specs.Records.{encode_node, encode_output}
@@ -51,17 +50,17 @@ pub record Lent (c : Circuit) (window : ℕ) (keys assignment old : List ℕ) (r
 -- what demand 3 claims
 pub record Assured (c : Circuit) (window : ℕ) (keys assignment old : List ℕ) (ready successors order answers : ℕ) : Type 0 where
   -- the circuit keeps the rules
-  pub checked : check_circuit c.nodes (wires_out c) ≡ Sound
+  pub checked : check_circuit c.nodes (wires_out c) ≡ Ok tt
   -- schedule and run don't refuse
-  pub scheduled : schedule_fault (node_records c) (output_records c) window keys ready successors order ≡ Sound
-  pub run_accepted : run_fault (node_records c) (output_records c) (order_of c window keys) assignment (length old) answers ≡ Sound
+  pub scheduled : schedule_fault (node_records c) (output_records c) window keys ready successors order ≡ Ok tt
+  pub run_accepted : run_fault (node_records c) (output_records c) (order_of c window keys) assignment (length old) answers ≡ Ok tt
   -- the order has every cell once, after all it reads
   pub in_order : InOrder (graph_of c.nodes) (order_of c window keys)
   pub lists_all : ListsAll (graph_of c.nodes) (order_of c window keys)
   -- the run's outputs are the storage order's, whatever the store held
   pub outputs : run_outputs c.nodes (wires_out c) assignment (order_of c window keys) old ≡ outputs_of c assignment
   -- and `evaluate`'s if nothing is unknown
-  pub evaluate_accepted : wrong_assignment 1 c.nodes assignment ≡ false → evaluate_fault (node_records c) (output_records c) assignment (length old) answers ≡ Sound
+  pub evaluate_accepted : wrong_assignment 1 c.nodes assignment ≡ false → evaluate_fault (node_records c) (output_records c) assignment (length old) answers ≡ Ok tt
   pub evaluates : wrong_assignment 1 c.nodes assignment ≡ false → evaluated c.nodes (wires_out c) assignment ≡ outputs_of c assignment
   -- a known output stays under every assignment that agrees on the known inputs
   pub keeps : (other : List ℕ) → Agrees assignment other → (j : ℕ) → get_or (outputs_of c assignment) j 0 < 2 → get_or (outputs_of c other) j 0 ≡ get_or (outputs_of c assignment) j 0

@@ -1,21 +1,20 @@
 -- Demand 3 as the composed call carries it: what its answer and its areas are.
 -- Assumes nothing.
-use Rattle.std.specs.Prelude.{ℕ, ◌≤◌, ◌≡◌, false, List, [], length, replicate}
-use Rattle.circuit.specs.declared.refusals.Checked.TheVariants.{Sound}
+use Rattle.std.specs.Prelude.{ℕ, ◌≤◌, ◌≡◌, false, List, [], length, replicate, Ok}
 use Rattle.circuit.specs.Check.{check_circuit}
 use Rattle.circuit.specs.Graph.{cells_of, graph_of}
 use Rattle.circuit.specs.Circuits.{Circuit, filled}
 use Rattle.runs.specs.Runs.{wrong_assignment}
-use Rattle.runs.specs.Calls.{ran_result, evaluated_result, run_call, evaluate_call}
+use Rattle.runs.specs.Calls.{call_result, run_call, evaluate_call}
 use Rattle.assurance.specs.declared.Both.{Both}
 use Rattle.assurance.specs.Assurance.{wires_out, node_records, output_records, order_of, outputs_of, Lent, Assured}
 
 -- the run, then `evaluate`: each by its own definition
 pub record RanThenEvaluated (nodes outputs order assignment old answers evaluated : List ℕ) (r : Both) (values' answers' evaluated' : List ℕ) : Type 0 where
-  pub run_number : (ran_result r.ran [] []).number ≡ (run_call nodes outputs order assignment old answers).number
-  pub run_count : (ran_result r.ran [] []).count ≡ (run_call nodes outputs order assignment old answers).count
+  pub run_number : (call_result r.ran [] []).number ≡ (run_call nodes outputs order assignment old answers).number
+  pub run_count : (call_result r.ran [] []).count ≡ (run_call nodes outputs order assignment old answers).count
   pub outputs_of_run : answers' ≡ (run_call nodes outputs order assignment old answers).outputs
-  pub evaluates : evaluated_result r.evaluated values' evaluated' ≡ evaluate_call nodes outputs assignment old evaluated
+  pub evaluates : call_result r.evaluated values' evaluated' ≡ evaluate_call nodes outputs assignment old evaluated
 
 -- "The .. ready and successor areas and the value store are work areas, zero after any call"
 pub record Cleared (ready successors values : ℕ) (ready' successors' values' : List ℕ) : Type 0 where
@@ -30,17 +29,17 @@ pub record Carried (c : Circuit) (window : ℕ) (keys assignment old : List ℕ)
   -- the order area has the order, zeros after it
   pub order_is : order' ≡ filled (order_of c window keys) order
   -- the run is accepted and worked out every cell of the circuit
-  pub run_accepted : (ran_result r.ran [] []).number ≡ 0
-  pub run_cells : (ran_result r.ran [] []).count ≡ length (cells_of (graph_of c.nodes))
+  pub run_accepted : (call_result r.ran [] []).number ≡ 0
+  pub run_cells : (call_result r.ran [] []).count ≡ length (cells_of (graph_of c.nodes))
   -- its outputs are the storage order's
   pub outputs_are : answers' ≡ filled (outputs_of c assignment) answers
   -- without unknowns `evaluate` is accepted and gives the same
   pub evaluates : wrong_assignment 1 c.nodes assignment ≡ false
-      → evaluated_result r.evaluated values' evaluated' ≡ record { number = 0; count = length c.outputs; store = replicate (length old) 0; outputs = filled (outputs_of c assignment) evaluated }
+      → call_result r.evaluated values' evaluated' ≡ record { number = 0; count = length c.outputs; store = replicate (length old) 0; outputs = filled (outputs_of c assignment) evaluated }
 
 -- whatever circuit the slices hold
 abbrev pub Carries : List ℕ → List ℕ → ℕ → List ℕ → List ℕ → List ℕ → ℕ → ℕ → ℕ → ℕ → ℕ → Both → List ℕ → List ℕ → List ℕ → List ℕ → Type 0
 Carries nodes outputs window keys assignment old ready successors order answers evaluated r order' values' answers' evaluated' =
-    (c : Circuit) → nodes ≡ node_records c → outputs ≡ output_records c → check_circuit c.nodes (wires_out c) ≡ Sound
+    (c : Circuit) → nodes ≡ node_records c → outputs ≡ output_records c → check_circuit c.nodes (wires_out c) ≡ Ok tt
     → Lent c window keys assignment old ready successors order answers → length c.outputs ≤ evaluated
     → Carried c window keys assignment old ready successors order answers evaluated r order' values' answers' evaluated'

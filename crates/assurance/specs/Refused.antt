@@ -1,18 +1,15 @@
 -- What the composed call answers and leaves where it refuses.
 -- Assumes nothing.
-use Rattle.std.specs.Prelude.{ℕ, ◌*◌, ◌≤◌, ◌<◌, ◌≡◌, List, length, take, replicate}
+use Rattle.std.specs.Prelude.{ℕ, ◌*◌, ◌≤◌, ◌<◌, ◌≡◌, List, length, take, replicate, Err}
 use Rattle.circuit.specs.declared.refusals.Refusal.{Refusal}
 use Rattle.circuit.specs.declared.refusals.Refusal.TheVariants.{Broken}
-use Rattle.circuit.specs.declared.refusals.Checked.TheVariants.{Refused}
 use Rattle.schedule.specs.Call.{schedule_fault}
-use Rattle.runs.specs.declared.run.Ran.TheVariants.{Refused as NotRun}
-use Rattle.runs.specs.declared.evaluate.Evaluated.TheVariants.{Refused as NotEvaluated}
 use Rattle.assurance.specs.declared.Both.{Both}
 
 -- both answers are the refusal, and the areas of the run and of `evaluate`, of so many bytes, are zeros
 pub record RefusedRun (e : Refusal) (values answers evaluated : ℕ) (r : Both) (values' answers' evaluated' : List ℕ) : Type 0 where
-  pub ran_is : r.ran ≡ NotRun e
-  pub evaluated_is : r.evaluated ≡ NotEvaluated e
+  pub ran_is : r.ran ≡ Err e
+  pub evaluated_is : r.evaluated ≡ Err e
   pub values_are : values' ≡ replicate values 0
   pub answers_are : answers' ≡ replicate answers 0
   pub evaluated_are : evaluated' ≡ replicate evaluated 0
@@ -27,7 +24,7 @@ pub record RefusedBoth (e : Refusal) (ready successors order values answers eval
 -- whatever the schedule refuses with
 abbrev pub RefusesUnordered : List ℕ → List ℕ → ℕ → List ℕ → ℕ → ℕ → ℕ → ℕ → ℕ → ℕ → Both → List ℕ → List ℕ → List ℕ → List ℕ → List ℕ → List ℕ → Type 0
 RefusesUnordered nodes outputs window keys ready successors order values answers evaluated r ready' successors' order' values' answers' evaluated' =
-    (e : Refusal) → schedule_fault nodes outputs window keys ready successors order ≡ Refused e
+    (e : Refusal) → schedule_fault nodes outputs window keys ready successors order ≡ Err e
     → RefusedBoth e ready successors order values answers evaluated r ready' successors' order' values' answers' evaluated'
 
 -- of the first n and o records of two areas: 15 where an area has fewer, else what the schedule refuses with

@@ -7,18 +7,18 @@ ghost use Rattle.circuit.specs.declared.refusals.Refusal.TheVariants.{UnfitOrder
 ghost use Rattle.assurance.specs.Carried.{RanThenEvaluated, Cleared, Carries};
 ghost use Rattle.assurance.specs.Refused.{RefusedRun, RefusedBoth, RefusesUnordered, RefusesRead};
 
-use circuit::areas::clear_bytes;
+use circuit::records::Sizes;
 use circuit::refusals::Refusal;
-use runs::evaluate::{Evaluated, evaluate};
-use runs::run::{Ran, run};
+use runs::evaluate::evaluate;
+use runs::run::run;
 use schedule::ordering::clear_all;
-use schedule::{Ordered, scheduled_gates_by_key};
+use schedule::scheduled_gates_by_key;
 
 // The answers of the run and of `evaluate`.
 #[derive(Clone, Copy)]
 pub struct Both {
-    pub ran: Ran,
-    pub evaluated: Evaluated,
+    pub ran: Result<usize, Refusal>,
+    pub evaluated: Result<usize, Refusal>,
 }
 
 // The run along the first entries of an order, then `evaluate`.
@@ -36,8 +36,8 @@ pub fn run_and_evaluate(
     ensures { RanThenEvaluated nodes.now outputs.now (take cells order.now) assignment.now values.old answers.old evaluated.old result values.new answers.new evaluated.new }
 {
     let ran = run(nodes, outputs, &order[..cells], assignment, values, answers);
-    let e = evaluate(nodes, outputs, assignment, values, evaluated);
-    Both { ran, evaluated: e }
+    let evaluated = evaluate(nodes, outputs, assignment, values, evaluated);
+    Both { ran, evaluated }
 }
 
 // The same, where the entries are no more than the area's; else nothing is run.
@@ -67,12 +67,12 @@ pub fn run_ordered(
 pub fn refuse_run(e: Refusal, values: &mut [u8], answers: &mut [u8], evaluated: &mut [u8]) -> Both
     ensures { RefusedRun e (length values.old) (length answers.old) (length evaluated.old) result values.new answers.new evaluated.new }
 {
-    clear_bytes(values);
-    clear_bytes(answers);
-    clear_bytes(evaluated);
+    values.fill(0);
+    answers.fill(0);
+    evaluated.fill(0);
     Both {
-        ran: Ran::Refused(e),
-        evaluated: Evaluated::Refused(e),
+        ran: Err(e),
+        evaluated: Err(e),
     }
 }
 
@@ -110,21 +110,19 @@ pub fn order_and_run(
     ensures refuses_unordered { RefusesUnordered nodes.now outputs.now window keys.now (length ready.old) (length successors.old) (length order.old) (length values.old) (length answers.old) (length evaluated.old) result ready.new successors.new order.new values.new answers.new evaluated.new }
     ensures cleared { Cleared (length ready.old) (length successors.old) (length values.old) ready.new successors.new values.new }
 {
-    let ordered = scheduled_gates_by_key(nodes, outputs, window, keys, ready, successors, order);
-    match ordered {
-        Ordered::Refused(e) => refuse_run(e, values, answers, evaluated),
-        Ordered::Cells(cells) => run_ordered(
+    match scheduled_gates_by_key(nodes, outputs, window, keys, ready, successors, order) {
+        Ok(cells) => run_ordered(
             nodes, outputs, order, cells, assignment, values, answers, evaluated,
         ),
+        Err(e) => refuse_run(e, values, answers, evaluated),
     }
 }
 
 // The first records of two areas: the schedule, the run and `evaluate` on them.
 pub fn run_read(
     nodes: &[usize],
-    node_count: usize,
     outputs: &[usize],
-    output_count: usize,
+    sizes: Sizes,
     window: usize,
     keys: &[u32],
     ready: &mut [usize],
@@ -135,22 +133,11 @@ pub fn run_read(
     answers: &mut [u8],
     evaluated: &mut [u8],
 ) -> Both
-    ensures carries { node_count * 9 ≤ length nodes.now → output_count * 5 ≤ length outputs.now → Carries (take (node_count * 9) nodes.now) (take (output_count * 5) outputs.now) window keys.now assignment.now values.old (length ready.old) (length successors.old) (length order.old) (length answers.old) (length evaluated.old) result order.new values.new answers.new evaluated.new }
-    ensures refuses_read { RefusesRead nodes.now node_count outputs.now output_count window keys.now (length ready.old) (length successors.old) (length order.old) (length values.old) (length answers.old) (length evaluated.old) result ready.new successors.new order.new values.new answers.new evaluated.new }
+    ensures carries { sizes.nodes * 9 ≤ length nodes.now → sizes.outputs * 5 ≤ length outputs.now → Carries (take (sizes.nodes * 9) nodes.now) (take (sizes.outputs * 5) outputs.now) window keys.now assignment.now values.old (length ready.old) (length successors.old) (length order.old) (length answers.old) (length evaluated.old) result order.new values.new answers.new evaluated.new }
+    ensures refuses_read { RefusesRead nodes.now sizes.nodes outputs.now sizes.outputs window keys.now (length ready.old) (length successors.old) (length order.old) (length values.old) (length answers.old) (length evaluated.old) result ready.new successors.new order.new values.new answers.new evaluated.new }
     ensures cleared { Cleared (length ready.old) (length successors.old) (length values.old) ready.new successors.new values.new }
 {
-    if nodes.len() / 9 < node_count {
-        return refuse_both(
-            Refusal::Broken,
-            ready,
-            successors,
-            order,
-            values,
-            answers,
-            evaluated,
-        );
-    }
-    if outputs.len() / 5 < output_count {
+    if nodes.len() / 9 < sizes.nodes || outputs.len() / 5 < sizes.outputs {
         return refuse_both(
             Refusal::Broken,
             ready,
@@ -162,8 +149,8 @@ pub fn run_read(
         );
     }
     order_and_run(
-        &nodes[..node_count * 9],
-        &outputs[..output_count * 5],
+        &nodes[..sizes.nodes * 9],
+        &outputs[..sizes.outputs * 5],
         window,
         keys,
         ready,

@@ -1,11 +1,11 @@
 -- Every circuit that the Bristol reader accepts passes the circuit check; what the call leaves, by its parts.
 -- Assumes nothing.
+use Rattle.circuit.specs.declared.records.Sizes.{Sizes}
+use Rattle.circuit.specs.Refusals.{Try}
+use Rattle.std.specs.Prelude.{Ok}
 use Prim.Native.Nat.{ℕ}
 use mathlib.Core.Path.{◌≡◌, refl}
 use mathlib.Core.List.{List}
-use Rattle.circuit.specs.declared.refusals.Checked.TheVariants.{Sound}
-use Rattle.circuit.specs.declared.refusals.Read.{Read}
-use Rattle.circuit.specs.Refusals.{yes}
 use Rattle.circuit.specs.Check.{check_circuit}
 use Rattle.circuit.specs.Circuits.{Circuit, filled, read_answer, node_words, output_words}
 use Rattle.bristol.specs.Bristol.{bristol, bristol_circuit}
@@ -13,10 +13,10 @@ use Rattle.bristol.specs.Promises.{Leaves}
 use Rattle.bristol.proofs.Sound.{bristol-sound}
 use Rattle.assurance.specs.Assurance.{wires_out}
 
-pub sound : (text : List ℕ) (n o w : ℕ) (c : Circuit) → bristol_circuit text n o w ≡ yes c → check_circuit c.nodes (wires_out c) ≡ Sound
+pub sound : (text : List ℕ) (n o w : ℕ) (c : Circuit) → bristol_circuit text n o w ≡ Ok c → check_circuit c.nodes (wires_out c) ≡ Ok tt
 sound text n o w c q = bristol-sound text n o w c q
 
-module _ (text : List ℕ) (n o w : ℕ) (r : Read) (N O W : List ℕ) (l : Leaves (bristol text n o w) r N O W) where
+module _ (text : List ℕ) (n o w : ℕ) (r : Try Sizes) (N O W : List ℕ) (l : Leaves (bristol text n o w) r N O W) where
   pub answer_is : r ≡ read_answer (bristol_circuit text n o w)
   unfolding bristol
   answer_is = l.answer_is

@@ -1,5 +1,7 @@
 -- A reader's answer and areas, then the composed call: demand 3 for what the reader's definition gives.
 -- Assumes nothing.
+use Rattle.circuit.specs.declared.records.Sizes.{Sizes}
+use Rattle.std.specs.Prelude.{Err, Ok}
 use Prim.Native.Nat.{ℕ, ◌-◌, ◌*◌, ◌≤◌}
 use mathlib.Core.Path.{◌≡◌, refl, sym, ap, ap₂, ◌∙◌, subst}
 use mathlib.Core.List.{List}
@@ -9,12 +11,10 @@ use lib.Seq.{take_at}
 use Rattle.laws.specs.Areas.{encodes}
 use Rattle.laws.proofs.Areas.{length-encodes}
 use Rattle.circuit.specs.declared.refusals.Refusal.{Refusal}
-use Rattle.circuit.specs.declared.refusals.Checked.TheVariants.{Sound}
-use Rattle.circuit.specs.declared.refusals.Read.{Read}
-use Rattle.circuit.specs.declared.refusals.Read.TheVariants.{Circuit as Accepted, Refused}
-use Rattle.circuit.specs.Refusals.{Try, yes}
+use Rattle.circuit.specs.Refusals.{Try}
 use Rattle.circuit.specs.Records.{encode_node, encode_output}
 use Rattle.circuit.specs.Check.{check_circuit}
+use Rattle.circuit.proofs.Tries.{yes_same}
 use Rattle.circuit.specs.Circuits.{Circuit, filled, read_answer, node_words, output_words}
 use Rattle.circuit.proofs.Codes.{node_wide, output_wide}
 use Rattle.schedule.specs.Call.{schedule_fault}
@@ -37,30 +37,30 @@ module _ {A : Type 0} (enc : A → List ℕ) (w : ℕ) (wide : (a : A) → lengt
   records_inside = omega (arith, size_is, ap length e ∙ length-append (encodes enc xs) (replicate (size - length (encodes enc xs)) 0))
 
 -- the same contents, with the answer that the definition gives
-pub leaves_answer : (text : List ℕ) (c : Try Circuit) (j n m o : ℕ) (r : Read) (J N M O : List ℕ) → Leaves text c j n m o r J N M O → Leaves text c j n m o (read_answer c) J N M O
+pub leaves_answer : (text : List ℕ) (c : Try Circuit) (j n m o : ℕ) (r : Try Sizes) (J N M O : List ℕ) → Leaves text c j n m o r J N M O → Leaves text c j n m o (read_answer c) J N M O
 leaves_answer text c j n m o r J N M O l =
     record { answer = refl; joined_is = l.joined_is; nodes_is = l.nodes_is; names_is = l.names_is; outputs_is = l.outputs_is }
 
-module _ (read : Try Circuit) (n o : ℕ) (r : Read) (N O : List ℕ) (answer : r ≡ read_answer read) (nodes_are : N ≡ filled (node_words read) n) (outputs_are : O ≡ filled (output_words read) o) where
-  never : (e : Refusal) (k l : ℕ) → Refused e ≡ Accepted k l → ⊥
-  never e k l s =
-      let z : ◌≡◌ {A = ℕ} 0 1 = cc in
+module _ (read : Try Circuit) (n o : ℕ) (r : Try Sizes) (N O : List ℕ) (answer : r ≡ read_answer read) (nodes_are : N ≡ filled (node_words read) n) (outputs_are : O ≡ filled (output_words read) o) where
+  never : (e : Refusal) (z : Sizes) → ◌≡◌ {A = Try Sizes} (Err e) (Ok z) → ⊥
+  never e z s =
+      let w : ◌≡◌ {A = ℕ} 0 1 = cc in
       omega arith
 
   -- a text that is refused has no circuit
-  refused_never : (e : Refusal) → r ≡ Refused e → (c : Circuit) → read ≡ yes c → ⊥
-  refused_never e p c q = never e (length c.nodes) (length c.outputs) (sym p ∙ answer ∙ ap read_answer q)
+  refused_never : (e : Refusal) → r ≡ Err e → (c : Circuit) → read ≡ Ok c → ⊥
+  refused_never e p c q = never e _ (sym p ∙ answer ∙ ap read_answer q)
 
   -- a circuit that was read stands in front of its areas
-  module _ (k l : ℕ) (p : r ≡ Accepted k l) (c : Circuit) (q : read ≡ yes c) where
-    counts : Accepted k l ≡ Accepted (length c.nodes) (length c.outputs)
-    counts = sym p ∙ answer ∙ ap read_answer q
+  module _ (z : Sizes) (p : r ≡ Ok z) (c : Circuit) (q : read ≡ Ok c) where
+    counts : z ≡ record { nodes = length c.nodes; outputs = length c.outputs }
+    counts = yes_same (sym p ∙ answer ∙ ap read_answer q)
 
-    node_count : k ≡ length c.nodes
-    node_count = let s = counts in cc
+    node_count : z.nodes ≡ length c.nodes
+    node_count = ap (λ (s : Sizes). s.nodes) counts
 
-    output_count : l ≡ length c.outputs
-    output_count = let s = counts in cc
+    output_count : z.outputs ≡ length c.outputs
+    output_count = ap (λ (s : Sizes). s.outputs) counts
 
     node_area : N ≡ filled (node_records c) n
     node_area = nodes_are ∙ ap (λ (t : Try Circuit). filled (node_words t) n) q
@@ -68,21 +68,21 @@ module _ (read : Try Circuit) (n o : ℕ) (r : Read) (N O : List ℕ) (answer : 
     output_area : O ≡ filled (output_records c) o
     output_area = outputs_are ∙ ap (λ (t : Try Circuit). filled (output_words t) o) q
 
-    nodes_inside : k * 9 ≤ length N
-    nodes_inside = records_inside encode_node 9 node_wide c.nodes k n N node_area node_count
+    nodes_inside : z.nodes * 9 ≤ length N
+    nodes_inside = records_inside encode_node 9 node_wide c.nodes z.nodes n N node_area node_count
 
-    outputs_inside : l * 5 ≤ length O
-    outputs_inside = records_inside encode_output 5 output_wide c.outputs l o O output_area output_count
+    outputs_inside : z.outputs * 5 ≤ length O
+    outputs_inside = records_inside encode_output 5 output_wide c.outputs z.outputs o O output_area output_count
 
-    nodes_front : take (k * 9) N ≡ node_records c
-    nodes_front = records_front encode_node 9 node_wide c.nodes k n N node_area node_count
+    nodes_front : take (z.nodes * 9) N ≡ node_records c
+    nodes_front = records_front encode_node 9 node_wide c.nodes z.nodes n N node_area node_count
 
-    outputs_front : take (l * 5) O ≡ output_records c
-    outputs_front = records_front encode_output 5 output_wide c.outputs l o O output_area output_count
+    outputs_front : take (z.outputs * 5) O ≡ output_records c
+    outputs_front = records_front encode_output 5 output_wide c.outputs z.outputs o O output_area output_count
 
   module _ (window : ℕ) (keys assignment old : List ℕ) (ready successors order answers evaluated : ℕ) (b : Both) (ready' successors' order' values' answers' evaluated' : List ℕ) where
     -- the composed call, of a text that the reader refuses
-    pub refuses : (e : Refusal) → r ≡ Refused e
+    pub refuses : (e : Refusal) → r ≡ Err e
         → RefusedBoth e ready successors order (length old) answers evaluated b ready' successors' order' values' answers' evaluated'
         → Assures read window keys assignment old ready successors order answers evaluated b order' values' answers' evaluated'
         × Refuses read window keys ready successors order (length old) answers evaluated b ready' successors' order' values' answers' evaluated'
@@ -90,7 +90,7 @@ module _ (read : Try Circuit) (n o : ℕ) (r : Read) (N O : List ℕ) (answer : 
       λ c q lent room. absurd (refused_never e p c q),
       record {
         unread = λ f q.
-            let s : Refused e ≡ Refused f = sym p ∙ answer ∙ ap read_answer q in
+            let s : Err e ≡ Err f = sym p ∙ answer ∙ ap read_answer q in
             let same : e ≡ f = cc in
             subst (λ (g : Refusal). RefusedBoth g ready successors order (length old) answers evaluated b ready' successors' order' values' answers' evaluated') same zeros;
         unordered = λ c f q fault. absurd (refused_never e p c q);
@@ -98,18 +98,18 @@ module _ (read : Try Circuit) (n o : ℕ) (r : Read) (N O : List ℕ) (answer : 
     )
 
     -- and of one that it accepts
-    pub assures : ((c : Circuit) → read ≡ yes c → check_circuit c.nodes (wires_out c) ≡ Sound) → (k l : ℕ) → r ≡ Accepted k l
-        → (k * 9 ≤ length N → l * 5 ≤ length O → Carries (take (k * 9) N) (take (l * 5) O) window keys assignment old ready successors order answers evaluated b order' values' answers' evaluated')
-        → RefusesRead N k O l window keys ready successors order (length old) answers evaluated b ready' successors' order' values' answers' evaluated'
+    pub assures : ((c : Circuit) → read ≡ Ok c → check_circuit c.nodes (wires_out c) ≡ Ok tt) → (z : Sizes) → r ≡ Ok z
+        → (z.nodes * 9 ≤ length N → z.outputs * 5 ≤ length O → Carries (take (z.nodes * 9) N) (take (z.outputs * 5) O) window keys assignment old ready successors order answers evaluated b order' values' answers' evaluated')
+        → RefusesRead N z.nodes O z.outputs window keys ready successors order (length old) answers evaluated b ready' successors' order' values' answers' evaluated'
         → Assures read window keys assignment old ready successors order answers evaluated b order' values' answers' evaluated'
         × Refuses read window keys ready successors order (length old) answers evaluated b ready' successors' order' values' answers' evaluated'
-    assures sound k l p ran refused = (
+    assures sound z p ran refused = (
       λ c q lent room.
-          ran (nodes_inside k l p c q) (outputs_inside k l p c q) c (nodes_front k l p c q) (outputs_front k l p c q) (sound c q) lent room,
+          ran (nodes_inside z p c q) (outputs_inside z p c q) c (nodes_front z p c q) (outputs_front z p c q) (sound c q) lent room,
       record {
-        unread = λ f q. absurd (never f k l (sym (ap read_answer q) ∙ sym answer ∙ p));
+        unread = λ f q. absurd (never f z (sym (ap read_answer q) ∙ sym answer ∙ p));
         unordered = λ c f q fault.
-            refused.unordered (nodes_inside k l p c q) (outputs_inside k l p c q) f
-            (ap₂ (λ (x y : List ℕ). schedule_fault x y window keys ready successors order) (nodes_front k l p c q) (outputs_front k l p c q) ∙ fault);
+            refused.unordered (nodes_inside z p c q) (outputs_inside z p c q) f
+            (ap₂ (λ (x y : List ℕ). schedule_fault x y window keys ready successors order) (nodes_front z p c q) (outputs_front z p c q) ∙ fault);
       },
     )

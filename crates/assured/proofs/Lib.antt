@@ -1,3 +1,2 @@
-pub mod BenchSound
 pub mod BristolSound
 pub mod Composing

@@ -7,7 +7,6 @@ ghost use Rattle.assured.specs.Assured.{Assures, Refuses};
 
 use assurance::{Both, refuse_both, run_read};
 use bristol::reader::parse_bristol;
-use circuit::refusals::Read;
 
 pub fn assured_bristol(
     text: &[u8],
@@ -29,15 +28,11 @@ pub fn assured_bristol(
     ensures refuses { Refuses (bristol_circuit text.now (length nodes.old) (length outputs.old) (length wires.old)) window keys.now (length ready.old) (length successors.old) (length order.old) (length values.old) (length answers.old) (length evaluated.old) result ready.new successors.new order.new values.new answers.new evaluated.new }
     ensures cleared { Cleared (length ready.old) (length successors.old) (length values.old) ready.new successors.new values.new }
 {
-    let read = parse_bristol(text, nodes, outputs, wires);
-    match read {
-        Read::Refused(e) => refuse_both(e, ready, successors, order, values, answers, evaluated),
-        Read::Circuit {
-            nodes: n,
-            outputs: o,
-        } => run_read(
-            nodes, n, outputs, o, window, keys, ready, successors, order, assignment, values,
+    match parse_bristol(text, nodes, outputs, wires) {
+        Ok(sizes) => run_read(
+            nodes, outputs, sizes, window, keys, ready, successors, order, assignment, values,
             answers, evaluated,
         ),
+        Err(e) => refuse_both(e, ready, successors, order, values, answers, evaluated),
     }
 }

@@ -2,6 +2,5 @@
 
 #![tactic(auto)]
 
-pub mod bench_text;
-pub mod blif_text;
 pub mod bristol_text;
+pub mod joined_text;

@@ -1,13 +1,14 @@
 -- 01's examples, the refusals in their order, and areas that are one record short, computed from the definition.
 -- Assumes nothing.
+use Rattle.std.specs.Prelude.{Err, Ok}
 use Prim.Native.Nat.{ℕ}
 use mathlib.Core.Path.{◌≡◌, refl, subst}
 use mathlib.Core.List.{List, [], ◌∷◌, ◌++◌, map}
 use Rattle.laws.specs.Areas.{encodes, capacity}
 use Rattle.laws.specs.Stretches.{stretch, run, same_bytes}
 use Rattle.circuit.specs.declared.refusals.Refusal.TheVariants.{NoRoom}
-use Rattle.circuit.specs.declared.refusals.Read.{Read}
-use Rattle.circuit.specs.Refusals.{Try, no, yes, number_of}
+use Rattle.circuit.specs.declared.records.Sizes.{Sizes}
+use Rattle.circuit.specs.Refusals.{Try, number_of}
 use Rattle.circuit.specs.Records.{encode_node, encode_output}
 use Rattle.circuit.specs.Circuits.{Circuit}
 use Rattle.text.specs.Bytes.{is_ascii, upper}
@@ -24,8 +25,8 @@ use Rattle.bench.specs.Bench.{gate_invoked, gate_of, gate_line, declaration_of, 
 
 -- the words of the nodes, then of the outputs; or the refusal's number alone
 abbrev seen : Try Circuit → List ℕ
-seen (no e) = number_of e ∷ []
-seen (yes c) = encodes encode_node c.nodes ++ encodes encode_output c.outputs
+seen (Err e) = number_of e ∷ []
+seen (Ok c) = encodes encode_node c.nodes ++ encodes encode_output c.outputs
 
 -- a text, and how many words there are for nodes, names and outputs
 record Case : Type 0 where
@@ -54,14 +55,14 @@ many = refl
 short : List ℕ
 short = 79 ∷ 85 ∷ 84 ∷ 80 ∷ 85 ∷ 84 ∷ 40 ∷ 121 ∷ 41 ∷ 10 ∷ 121 ∷ 61 ∷ 79 ∷ 82 ∷ 40 ∷ 84 ∷ 82 ∷ 85 ∷ 69 ∷ 44 ∷ 84 ∷ 82 ∷ 85 ∷ 69 ∷ 44 ∷ 84 ∷ 82 ∷ 85 ∷ 69 ∷ 44 ∷ 84 ∷ 82 ∷ 85 ∷ 69 ∷ 44 ∷ 84 ∷ 82 ∷ 85 ∷ 69 ∷ 44 ∷ 84 ∷ 82 ∷ 85 ∷ 69 ∷ 41 ∷ []
 
-short_refused : bench short 128 36 4 5 ≡ no NoRoom
+short_refused : bench short 128 36 4 5 ≡ Err NoRoom
 unfolding short read_text bytes_fault text_fault is_ascii capacity joined_text logical_lines joined_from gather part continued all_but_last kept_lines kept_of kept uncommented trim trim_start trim_end is_blank raw_lines ended bench_lines lines places each read_line line_step gate_line gate_of gate_invoked declaration_line declared_in declare declaration_of parse_invocation invocation arguments_of none_empty parts up_to_last trimmed run stretch operation_of binary_of upper input_wires lower_gate chained chain add_input add_output add_named add_node add_name add_alias find lookup same_bytes finish resolve closed
 short_refused = refl
 
-short_zeroed : (r : Read) (joined nodes names outputs : List ℕ) → Leaves short (bench short 128 36 4 5) 128 36 4 5 r joined nodes names outputs → Zeroed NoRoom 128 36 4 5 r joined nodes names outputs
+short_zeroed : (r : Try Sizes) (joined nodes names outputs : List ℕ) → Leaves short (bench short 128 36 4 5) 128 36 4 5 r joined nodes names outputs → Zeroed NoRoom 128 36 4 5 r joined nodes names outputs
 short_zeroed r joined nodes names outputs l = zeroed (subst (λ (c : Try Circuit). Leaves short c 128 36 4 5 r joined nodes names outputs) short_refused l)
   where
-    zeroed : Leaves short (no NoRoom) 128 36 4 5 r joined nodes names outputs → Zeroed NoRoom 128 36 4 5 r joined nodes names outputs
+    zeroed : Leaves short (Err NoRoom) 128 36 4 5 r joined nodes names outputs → Zeroed NoRoom 128 36 4 5 r joined nodes names outputs
     zeroed k = record { answer = k.answer; joined_is = k.joined_is; nodes_is = k.nodes_is; names_is = k.names_is; outputs_is = k.outputs_is }
 
 -- the six tables, with the first input as the first wire: XOR(a, a), constants as inputs, letters in any case

@@ -1,4 +1,4 @@
 pub mod LineLaws
 pub mod Planning
-pub mod Naming
 pub mod Examples
+pub mod Sound

@@ -1,9 +1,9 @@
 -- The BENCH reader: the lines of a joined text, one after the other.
 -- Assumes nothing.
-use Rattle.std.specs.Prelude.{ℕ, ◌+◌, true, cond, List, [], ◌∷◌, ltb}
+use Rattle.std.specs.Prelude.{ℕ, ◌+◌, true, cond, List, [], ◌∷◌, ltb, Err, Ok}
 use Rattle.laws.specs.Stretches.{run, is_not}
 use Rattle.circuit.specs.declared.refusals.Refusal.TheVariants.{Unknown, Malformed}
-use Rattle.circuit.specs.Refusals.{Try, no, yes, and_then, need}
+use Rattle.circuit.specs.Refusals.{Try, and_then, need}
 use Rattle.circuit.specs.Circuits.{Circuit}
 use Rattle.text.specs.Bytes.{is_named}
 use Rattle.text.specs.Blanks.{trimmed}
@@ -29,7 +29,7 @@ pub record Gate : Type 0 where
 
 -- "invocation, 5, operation"
 unfoldable pub gate_invoked : List ℕ → List Entry → Invoked → Try Gate
-gate_invoked t es i = and_then (input_wires t es i.arguments) (λ xs. yes (record { operation = operation_of (bytes_of t i.operation); inputs = xs }))
+gate_invoked t es i = and_then (input_wires t es i.arguments) (λ xs. Ok (record { operation = operation_of (bytes_of t i.operation); inputs = xs }))
 
 -- "a gate: empty output 9, 4, invocation, 5, operation"
 unfoldable pub gate_of : List ℕ → Word → Word → List Entry → Try Gate
@@ -55,21 +55,21 @@ pub record Declared : Type 0 where
 unfoldable pub declared_in : List ℕ → Word → Try Declared
 declared_in t l =
     and_then (parse_invocation t l)
-    (λ i. and_then (only_one i.arguments) (λ w. yes (record { declaration = declaration_of (bytes_of t i.operation); name = w })))
+    (λ i. and_then (only_one i.arguments) (λ w. Ok (record { declaration = declaration_of (bytes_of t i.operation); name = w })))
 
 abbrev pub with_held : List Word → Try Held → Try State
-with_held os (no e) = no e
-with_held os (yes h) = yes (record { held = h; outputs = os })
+with_held os (Err e) = Err e
+with_held os (Ok h) = Ok (record { held = h; outputs = os })
 
 abbrev pub with_outputs : Held → Try (List Word) → Try State
-with_outputs h (no e) = no e
-with_outputs h (yes os) = yes (record { held = h; outputs = os })
+with_outputs h (Err e) = Err e
+with_outputs h (Ok os) = Ok (record { held = h; outputs = os })
 
 -- "`INPUT` 4, `OUTPUT` collected, others 8"
 unfoldable pub declare : List ℕ → Places → Declaration → Word → State → Try State
 declare t p Input w s = with_held s.outputs (add_input true t p w s.held)
 declare t p Output w s = with_outputs s.held (add_output p.outputs w s.outputs)
-declare t p Other w s = no Unknown
+declare t p Other w s = Err Unknown
 
 -- "Other lines are declarations: 9, not one name 6, `INPUT` 4, `OUTPUT` collected, others 8."
 unfoldable pub declaration_line : List ℕ → Places → Word → State → Try State

@@ -1,4 +1,3 @@
 pub mod Drivers
 pub mod Chaining
 pub mod Lowering
-pub mod Naming

@@ -1,114 +1,107 @@
 -- The ways of lowering a gate whose inputs have drivers.
 -- Assumes nothing.
+use Rattle.std.specs.Prelude.{Err}
 use Prim.Native.Nat.{ℕ, ◌≤◌, ◌<◌}
 use mathlib.Core.Path.{◌≡◌, refl, sym, ap, ◌∙◌}
-use mathlib.Core.Bool.{true}
 use mathlib.Core.List.{List, [], ◌∷◌}
 use native.Mathlib.Omega.{arith}
 use lib.ListN.{length, get_or, take}
 use borrow.Author.Tests.{ne_eqb}
-use Rattle.circuit.specs.declared.refusals.Refusal.TheVariants.{NoDriver, WrongCount, Unknown}
-use Rattle.circuit.specs.declared.refusals.Checked.{Checked}
-use Rattle.circuit.specs.declared.refusals.Checked.TheVariants.{Sound, Refused}
+use Rattle.circuit.specs.declared.refusals.Refusal.{Refusal}
+use Rattle.circuit.specs.declared.refusals.Refusal.TheVariants.{WrongCount, Unknown}
 use Rattle.circuit.specs.declared.records.BoolNode.{BoolNode}
-use Rattle.circuit.specs.Refusals.{Try, no, yes, and_then}
+use Rattle.circuit.specs.Refusals.{Try, and_then}
 use Rattle.text.specs.declared.words.Word.{Word}
 use Rattle.names.specs.Names.{Entry}
-use Rattle.names.specs.declared.Found.TheVariants.{At, Nothing}
-use Rattle.reading.specs.Reading.{Places, Held, find, add_name, with_names, add_alias, add_named}
-use Rattle.reading.specs.Holding.{outcome}
+use Rattle.reading.specs.Reading.{Places, Held, add_name, with_names, add_alias, add_named}
+use Rattle.bench_invocations.specs.Walks.{arguments_from}
 use Rattle.bench_gates.specs.declared.operations.Operation.TheVariants.{Buf, Not, Chain, Other}
 use Rattle.bench_gates.specs.declared.operations.Binary.{Binary}
+use Rattle.bench_gates.specs.declared.inputs.Wired.{Wired}
+use Rattle.bench_gates.specs.declared.plans.Plan.{Plan}
 use Rattle.bench_gates.specs.Gates.{input_wires, only_one, inverter, last_cell, with_nodes, chain, chained, lower_gate}
-use Rattle.bench_gates.specs.declared.inputs.Wires.{Wires}
-use Rattle.bench_gates.specs.Walks.{Driven, AreFirst, FirstWires, if_one, chain_words}
+use Rattle.bench_gates.specs.Walks.{WiredIs, NotDriven, first_three, Driven, if_one, chain_words}
 use Rattle.bench_gates.proofs.Drivers.{inputs-none, inputs_rest, inputs-length}
 use Rattle.bench_gates.proofs.Chaining.{chain-words}
 
--- what one input gives, by its kept wire
-module _ (t : List ℕ) (es : List Entry) (ws : List Word) (inputs : ℕ) (d : Driven t es ws inputs) where
-  pub one_kept : {B : Type 0} (f : ℕ → Try B) (w : Wires) → FirstWires t es ws w → if_one inputs (f w.first) ≡ and_then (input_wires t es ws) (λ xs. and_then (only_one xs) f)
-  one_kept f w k = rw (d.are, ← count) (go d.wires (k d.wires d.are).first_is)
-    where
-      count : length d.wires ≡ inputs
-      count = inputs-length t es ws d.wires d.are ∙ sym d.count_is
-
-      go : (xs : List ℕ) → w.first ≡ get_or xs 0 0 → if_one (length xs) (f w.first) ≡ and_then (only_one xs) f
-      go [] e = refl
-      go (x ∷ []) e = ap f e
-      go (x ∷ y ∷ ys) e = rw (ne_eqb (length (x ∷ y ∷ ys)) 1 (λ q. absurd (omega (arith, q))))
-
-pub no_driver : {B : Type 0} (t : List ℕ) (es : List Entry) (ws : List Word) (w : Word) (rest : List Word) (f : List ℕ → Try B) → ws ≡ w ∷ rest → find true t w es ≡ Nothing → no NoDriver ≡ and_then (input_wires t es ws) f
-no_driver t es ws w rest f e q = rw (← inputs-none t es ws w rest e q)
-
--- ---- the operations
-
-module _ (p : Places) (out : Word) (h : Held) where
-  buffer : (xs : List ℕ) → with_names h.nodes (and_then (only_one xs) (λ x. add_name p.names out x h.names)) ≡ lower_gate p out Buf xs h
-  unfolding lower_gate add_alias
-  buffer [] = refl
-  buffer (x ∷ []) = refl
-  buffer (x ∷ y ∷ ys) = refl
-
-  -- the names of a buffer, with the nodes as they were
-  pub buffered : (r : Try (List ℕ)) (f : Checked) (names : List Entry) → outcome f names ≡ and_then r (λ xs. and_then (only_one xs) (λ x. add_name p.names out x h.names))
-      → outcome f (with_nodes h.nodes names) ≡ and_then r (λ xs. lower_gate p out Buf xs h)
-  buffered r f names e = keep f ∙ ap (with_names h.nodes) e ∙ go r
-    where
-      keep : (g : Checked) → outcome g (with_nodes h.nodes names) ≡ with_names h.nodes (outcome g names)
-      keep Sound = refl
-      keep (Refused q) = refl
-
-      go : (s : Try (List ℕ)) → with_names h.nodes (and_then s (λ xs. and_then (only_one xs) (λ x. add_name p.names out x h.names))) ≡ and_then s (λ xs. lower_gate p out Buf xs h)
-      go (no q) = refl
-      go (yes xs) = buffer xs
-
-  pub inverted : (r : Try (List ℕ)) → and_then r (λ xs. and_then (only_one xs) (λ x. add_named p out (inverter out x) h)) ≡ and_then r (λ xs. lower_gate p out Not xs h)
-  unfolding lower_gate
-  inverted r = refl
-
-  pub unknown : (t : List ℕ) (es : List Entry) (ws : List Word) (inputs : ℕ) → Driven t es ws inputs → no Unknown ≡ and_then (input_wires t es ws) (λ xs. lower_gate p out Other xs h)
-  unfolding lower_gate
-  unknown t es ws inputs d = rw d.are
-
 -- at most three wires are all kept
-all_kept : (w : Wires) (xs : List ℕ) → AreFirst w xs → length xs ≤ 3 → take (length xs) (w.first ∷ w.second ∷ w.third ∷ []) ≡ xs
-all_kept w [] f l = refl
-all_kept w (x ∷ []) f l = rw f.first_is
-all_kept w (x ∷ y ∷ []) f l = rw (f.first_is, f.second_is)
-all_kept w (x ∷ y ∷ z ∷ []) f l = rw (f.first_is, f.second_is, f.third_is)
-all_kept w (x ∷ y ∷ z ∷ v ∷ vs) f l = absurd (omega arith)
+all_kept : (xs : List ℕ) → length xs ≤ 3 → take (length xs) (first_three xs) ≡ xs
+all_kept [] l = refl
+all_kept (x ∷ []) l = refl
+all_kept (x ∷ y ∷ []) l = refl
+all_kept (x ∷ y ∷ z ∷ []) l = refl
+all_kept (x ∷ y ∷ z ∷ v ∷ vs) l = absurd (omega arith)
 
-few : (p : Places) (out : Word) (o : Binary) (h : Held) (xs : List ℕ) → length xs < 2 → no WrongCount ≡ lower_gate p out (Chain o) xs h
+few : (p : Places) (out : Word) (o : Binary) (h : Held) (xs : List ℕ) → length xs < 2 → Err WrongCount ≡ lower_gate p out (Chain o) xs h
 unfolding lower_gate chained chain
 few p out o h [] l = refl
 few p out o h (x ∷ []) l = refl
 few p out o h (x ∷ y ∷ ys) l = absurd (omega arith)
 
-module _ (t : List ℕ) (es : List Entry) (ws : List Word) (inputs : ℕ) (d : Driven t es ws inputs) (p : Places) (out : Word) (o : Binary) (ns : List BoolNode) where
-  pub too_few : inputs < 2 → no WrongCount ≡ and_then (input_wires t es ws) (λ xs. lower_gate p out (Chain o) xs (with_nodes ns es))
-  too_few l = rw d.are (few p out o (with_nodes ns es) d.wires (omega (arith, inputs-length t es ws d.wires d.are, d.count_is)))
+buffer : (p : Places) (out : Word) (h : Held) (xs : List ℕ) → with_names h.nodes (and_then (only_one xs) (λ x. add_name p.names out x h.names)) ≡ lower_gate p out Buf xs h
+unfolding lower_gate add_alias
+buffer p out h [] = refl
+buffer p out h (x ∷ []) = refl
+buffer p out h (x ∷ y ∷ ys) = refl
 
-  pub chain_made : (w : Word) (rest : List Word) → ws ≡ w ∷ rest → (x : ℕ) → find true t w es ≡ At x
-      → chain_words t p out o 1 x rest (with_nodes ns es) ≡ and_then (input_wires t es ws) (λ xs. lower_gate p out (Chain o) xs (with_nodes ns es))
-  unfolding lower_gate chained
-  chain_made w rest e x q =
-      let r = inputs_rest t es ws w rest e x q d.wires d.are in
-      rw (d.are, r.all_are) (chain-words t es p out o rest 1 x ns r.wires r.are)
+module _ (t : List ℕ) (es : List Entry) (q : Plan) (d : Driven t es q) where
+  number : length d.wires ≡ q.inputs
+  number = inputs-length t es (arguments_from t q.from q.end) d.wires d.are ∙ sym d.count_is
 
-  -- a gate of at most three inputs is the chain of the kept wires
-  kept_made : (w : Wires) → FirstWires t es ws w → inputs ≤ 3
-      → chained p out o (take inputs (w.first ∷ w.second ∷ w.third ∷ [])) (with_nodes ns es) ≡ and_then (input_wires t es ws) (λ xs. lower_gate p out (Chain o) xs (with_nodes ns es))
-  unfolding lower_gate
-  kept_made w f most =
-      let l : length d.wires ≡ inputs = inputs-length t es ws d.wires d.are ∙ sym d.count_is in
-      rw (d.are, ← l) (ap (λ (xs : List ℕ). chained p out o xs (with_nodes ns es)) (all_kept w d.wires (f d.wires d.are) (omega arith)))
+  -- what is tried with the wires of all inputs
+  abbrev With : {B : Type 0} → (List ℕ → Try B) → Try B
+  With f = and_then (input_wires t es (arguments_from t q.from q.end)) f
 
-  module _ (w : Wires) (f : FirstWires t es ws w) where
-    pub pair_made : inputs ≡ 2 → add_named p out (last_cell out o w.first w.second) (with_nodes ns es) ≡ and_then (input_wires t es ws) (λ xs. lower_gate p out (Chain o) xs (with_nodes ns es))
-    unfolding chained chain
-    pair_made two = rw two at (kept_made w f (omega arith))
+  -- what one input gives, by its kept wire
+  pub one_kept : {B : Type 0} (f : ℕ → Try B) → if_one q.inputs (f (get_or q.wires 0 0)) ≡ With (λ xs. and_then (only_one xs) f)
+  one_kept f = rw (d.are, ← number, d.firsts) (go d.wires)
+    where
+      go : (xs : List ℕ) → if_one (length xs) (f (get_or xs 0 0)) ≡ and_then (only_one xs) f
+      go [] = refl
+      go (x ∷ []) = refl
+      go (x ∷ y ∷ ys) = rw (ne_eqb (length (x ∷ y ∷ ys)) 1 (λ q. absurd (omega (arith, q))))
 
-    pub triple_made : inputs ≡ 3 → chain p out o 1 w.first (w.second ∷ w.third ∷ []) (with_nodes ns es) ≡ and_then (input_wires t es ws) (λ xs. lower_gate p out (Chain o) xs (with_nodes ns es))
-    unfolding chained
-    triple_made three = rw three at (kept_made w f (omega arith))
+  module _ (p : Places) (ns : List BoolNode) where
+    abbrev Gate : Try Held
+    Gate = With (λ xs. lower_gate p q.out q.operation xs (with_nodes ns es))
+
+    -- the names of a buffer, with the nodes as they were
+    pub buffered : q.operation ≡ Buf → (r : Try (List Entry)) → r ≡ if_one q.inputs (add_name p.names q.out (get_or q.wires 0 0) es) → with_names ns r ≡ Gate
+    buffered b r e = rw b (ap (with_names ns) (e ∙ one_kept (λ x. add_name p.names q.out x es)) ∙ rw d.are (buffer p q.out (with_nodes ns es) d.wires))
+
+    pub inverted : q.operation ≡ Not → (r : Try Held) → r ≡ if_one q.inputs (add_named p q.out (inverter q.out (get_or q.wires 0 0)) (with_nodes ns es)) → r ≡ Gate
+    unfolding lower_gate
+    inverted b r e = rw b (e ∙ one_kept (λ x. add_named p q.out (inverter q.out x) (with_nodes ns es)))
+
+    pub unknown : q.operation ≡ Other → Err Unknown ≡ Gate
+    unfolding lower_gate
+    unknown b = rw (b, d.are)
+
+    module _ (o : Binary) where
+      abbrev Chained : Try Held
+      Chained = With (λ xs. lower_gate p q.out (Chain o) xs (with_nodes ns es))
+
+      pub too_few : q.inputs < 2 → Err WrongCount ≡ Chained
+      too_few l = rw d.are (few p q.out o (with_nodes ns es) d.wires (omega (arith, number)))
+
+      pub no_driver : (e : Refusal) → NotDriven t es q.from q.end e → Err e ≡ Chained
+      no_driver e w = rw (w.refusal_is, ← inputs-none t es (arguments_from t q.from q.end) w.word w.rest w.first w.none_is)
+
+      pub chain_made : (a : Wired) → WiredIs t es q.from q.end a → chain_words t p q.out o 1 a.wire (arguments_from t a.next q.end) (with_nodes ns es) ≡ Chained
+      unfolding lower_gate chained
+      chain_made a w =
+          let r = inputs_rest t es (arguments_from t q.from q.end) w.word (arguments_from t a.next q.end) w.first a.wire w.wire_is d.wires d.are in
+          rw (d.are, r.all_are) (chain-words t es p q.out o (arguments_from t a.next q.end) 1 a.wire ns r.wires r.are)
+
+      -- a gate of at most three inputs is the chain of the kept wires
+      kept_made : q.inputs ≤ 3 → chained p q.out o (take q.inputs q.wires) (with_nodes ns es) ≡ Chained
+      unfolding lower_gate
+      kept_made most = rw (d.are, ← number, d.firsts) (ap (λ (xs : List ℕ). chained p q.out o xs (with_nodes ns es)) (all_kept d.wires (omega (arith, number))))
+
+      pub pair_made : q.inputs ≡ 2 → add_named p q.out (last_cell q.out o (get_or q.wires 0 0) (get_or q.wires 1 0)) (with_nodes ns es) ≡ Chained
+      unfolding chained chain
+      pair_made two = rw d.firsts (rw (two, d.firsts) at (kept_made (omega arith)))
+
+      pub triple_made : q.inputs ≡ 3 → chain p q.out o 1 (get_or q.wires 0 0) (get_or q.wires 1 0 ∷ get_or q.wires 2 0 ∷ []) (with_nodes ns es) ≡ Chained
+      unfolding chained
+      triple_made three = rw d.firsts (rw (three, d.firsts) at (kept_made (omega arith)))

@@ -1,11 +1,11 @@
 -- A gate of BENCH: the wires of its inputs, and the nodes and the name that it adds.
 -- Assumes nothing.
-use Rattle.std.specs.Prelude.{ℕ, suc, ◌+◌, true, List, [], ◌∷◌, length}
+use Rattle.std.specs.Prelude.{ℕ, suc, ◌+◌, true, List, [], ◌∷◌, length, Err, Ok}
 use Rattle.circuit.specs.declared.refusals.Refusal.TheVariants.{WrongCount, Unknown}
 use Rattle.circuit.specs.declared.records.Name.{Name}
 use Rattle.circuit.specs.declared.records.Name.TheVariants.{Stretch, Step}
 use Rattle.circuit.specs.declared.records.BoolNode.{BoolNode}
-use Rattle.circuit.specs.Refusals.{Try, no, yes, and_then}
+use Rattle.circuit.specs.Refusals.{Try, and_then}
 use Rattle.circuit.specs.Records.{wire_of}
 use Rattle.text.specs.declared.words.Word.{Word}
 use Rattle.names.specs.Names.{Entry}
@@ -17,14 +17,14 @@ use Rattle.bench_gates.specs.Operations.{truth_table, associative}
 
 -- "5: gate input .. without a driver": the words of the inputs' wires
 unfoldable pub input_wires : List ℕ → List Entry → List Word → Try (List ℕ)
-input_wires t es [] = yes []
-input_wires t es (w ∷ ws) = and_then (driver (find true t w es)) (λ x. and_then (input_wires t es ws) (λ xs. yes (x ∷ xs)))
+input_wires t es [] = Ok []
+input_wires t es (w ∷ ws) = and_then (driver (find true t w es)) (λ x. and_then (input_wires t es ws) (λ xs. Ok (x ∷ xs)))
 
 -- "Wrong count 6": a list of one
 abbrev pub only_one : {A : Type 0} → List A → Try A
-only_one [] = no WrongCount
-only_one (x ∷ []) = yes x
-only_one (x ∷ y ∷ ys) = no WrongCount
+only_one [] = Err WrongCount
+only_one (x ∷ []) = Ok x
+only_one (x ∷ y ∷ ys) = Err WrongCount
 
 -- a cell with the wires of two words
 abbrev pub cell : Name → ℕ → ℕ → ℕ → ℕ → BoolNode
@@ -52,13 +52,13 @@ with_nodes ns es = record { nodes = ns; names = es }
 
 -- "two or more, chained left": from step k on, x chained so far; a step takes a node record and no name record
 unfoldable pub chain : Places → Word → Binary → ℕ → ℕ → List ℕ → Held → Try Held
-chain p out o k x [] h = no WrongCount
+chain p out o k x [] h = Err WrongCount
 chain p out o k x (y ∷ []) h = add_named p out (last_cell out o x y) h
 chain p out o k x (y ∷ z ∷ zs) h =
     and_then (add_node p.nodes (step_cell out o k x y) h.nodes) (λ ns. chain p out o (suc k) (length h.nodes + 2) (z ∷ zs) (with_nodes ns h.names))
 
 unfoldable pub chained : Places → Word → Binary → List ℕ → Held → Try Held
-chained p out o [] h = no WrongCount
+chained p out o [] h = Err WrongCount
 chained p out o (x ∷ ys) h = chain p out o 1 x ys h
 
 -- "BUFF, BUF: one input, alias. NOT, INV: one input, cell. AND, .. XNOR: two or more .. Wrong count 6, other operation 8."
@@ -66,4 +66,4 @@ unfoldable pub lower_gate : Places → Word → Operation → List ℕ → Held 
 lower_gate p out Buf xs h = and_then (only_one xs) (λ x. add_alias p out x h)
 lower_gate p out Not xs h = and_then (only_one xs) (λ x. add_named p out (inverter out x) h)
 lower_gate p out (Chain o) xs h = chained p out o xs h
-lower_gate p out Other xs h = no Unknown
+lower_gate p out Other xs h = Err Unknown

@@ -1,110 +1,55 @@
 // The inputs of a gate: the wires of its arguments, one after the other.
-ghost use Rattle.std.specs.Prelude.{◌≡◌, cond, ◌+◌, ◌≤◌, length, eqb};
-ghost use Rattle.names.specs.Chains.{entries, Table};
+ghost use Rattle.std.specs.Prelude.{◌≡◌, ◌≤◌, length, IfOk, IfErr};
+ghost use Rattle.names.specs.Chains.{entries};
+ghost use Rattle.reading.specs.Holding.{outcome};
 ghost use Rattle.bench_invocations.specs.Walks.{arguments_from};
-ghost use Rattle.bench_gates.specs.Walks.{WiredIs, InputsAre};
+ghost use Rattle.bench_gates.specs.Gates.{input_wires};
+ghost use Rattle.bench_gates.specs.Walks.{WiredIs, NotDriven, first_three};
 
 use bench_invocations::arguments::next_argument;
-use circuit::refusals::{Checked, Refusal};
-use names::Found;
+use circuit::refusals::Refusal;
+use names::NameTable;
 use reading::records::find_wire;
 
 // The wire of an argument, and where the next one starts.
 #[derive(Clone, Copy)]
 pub struct Wired {
-    pub wire: Found,
+    pub wire: usize,
     pub next: usize,
 }
 
-pub fn argument_wire(
-    text: &[u8],
-    at: usize,
-    end: usize,
-    heads: &[usize; 256],
-    names: &[usize],
-    count: usize,
-) -> Wired
-    requires table { Table text.now heads.now names.now count }
-    requires at_le_end { (at ≤ end) × (end ≤ length text.now) }
-    ensures { WiredIs text.now (entries names.now count) at end result }
+// The next argument, or 5 if it has no driver.
+pub fn argument_wire(table: &NameTable, at: usize, end: usize) -> Result<Wired, Refusal>
+    requires at_le_end { (at ≤ end) × (end ≤ length table.now.text.now) }
+    ensures wired { IfOk result (λ w. WiredIs table.now.text.now (entries table.now.names.now table.now.count) at end w) }
+    ensures not_driven { IfErr result (λ e. NotDriven table.now.text.now (entries table.now.names.now table.now.count) at end e) }
 {
-    let a = next_argument(text, at, end);
-    let start = a.start;
-    let len = a.len;
-    let wire = find_wire(text, start, len, true, heads, names, count);
-    Wired { wire, next: a.next }
+    let argument = next_argument(table.text, at, end);
+    let Some(wire) = find_wire(table, argument.word, true) else {
+        return Err(Refusal::NoDriver);
+    };
+    Ok(Wired {
+        wire,
+        next: argument.next,
+    })
 }
 
-// The wires of the first three inputs (0 where there is none), from which a gate of two or three is made.
-#[derive(Clone, Copy)]
-pub struct Wires {
-    pub first: usize,
-    pub second: usize,
-    pub third: usize,
-}
-
-// 5, or none, and the wires of the first three inputs.
-#[derive(Clone, Copy)]
-pub struct Inputs {
-    pub fault: Checked,
-    pub wires: Wires,
-}
-
-// A wire that is kept if it is the one of input k, the n-th being at hand.
-pub fn keep_wire(n: usize, k: usize, wire: usize, kept: usize) -> usize
-    ensures { result ≡ cond (eqb n k) wire kept }
+// The wires of the first three inputs (0 where there is none), from which a gate of two or three is made; 5 at the first input without a driver.
+pub fn input_wires(table: &NameTable, from: usize, end: usize) -> Result<[usize; 3], Refusal>
+    requires end_in_bounds { end ≤ length table.now.text.now }
+    ensures { result ≡ outcome first_three (input_wires table.now.text.now (entries table.now.names.now table.now.count) (arguments_from table.now.text.now from end)) }
 {
-    if n == k {
-        return wire;
-    }
-    kept
-}
-
-// 5 at the first argument without a driver. What `argument_wire` does stands here in place: as a call of its own it costs a copy of both slices' places.
-pub fn input_wires(
-    text: &[u8],
-    from: usize,
-    end: usize,
-    heads: &[usize; 256],
-    names: &[usize],
-    count: usize,
-) -> Inputs
-    requires table { Table text.now heads.now names.now count }
-    requires end_in_bounds { end ≤ length text.now }
-    ensures { InputsAre text.now (entries names.now count) (arguments_from text.now from end) result }
-{
-    let mut at = from;
+    let mut wires = [0; 3];
     let mut n = 0;
-    let mut first = 0;
-    let mut second = 0;
-    let mut third = 0;
+    let mut at = from;
+    // No range: each argument says where the next one starts.
     while at <= end {
-        let a = next_argument(text, at, end);
-        let start = a.start;
-        let len = a.len;
-        let wire = find_wire(text, start, len, true, heads, names, count);
-        let Found::At(x) = wire else {
-            return Inputs {
-                fault: Checked::Refused(Refusal::NoDriver),
-                wires: Wires {
-                    first: 0,
-                    second: 0,
-                    third: 0,
-                },
-            };
-        };
-        first = keep_wire(n, 0, x, first);
-        second = keep_wire(n, 1, x, second);
-        third = keep_wire(n, 2, x, third);
+        let argument = argument_wire(table, at, end)?;
+        if n < 3 {
+            wires[n] = argument.wire;
+        }
         n += 1;
-        at = a.next;
+        at = argument.next;
     }
-    Inputs {
-        fault: Checked::Sound,
-        wires: Wires {
-            first,
-            second,
-            third,
-        },
-    }
+    Ok(wires)
 }

@@ -6,4 +6,5 @@ pub mod chains;
 pub mod gates;
 pub mod inputs;
 pub mod operations;
+pub mod plans;
 pub mod short_chains;

@@ -1,12 +1,13 @@
 // The operations of BENCH.
 ghost use Rattle.std.specs.Prelude.{◌≡◌, ◌+◌, ◌≤◌, length};
-ghost use Rattle.laws.specs.Stretches.{stretch};
+ghost use Rattle.text.specs.Words.{bytes_of};
 ghost use Rattle.bench_gates.specs.Operations.{binary_of, operation_of, truth_table, associative};
 
 use text::bytes::is_named;
+use text::words::Word;
 
 // The operations of two or more inputs.
-#[derive(Clone, Copy)]
+#[derive(Clone, Copy, Debug, PartialEq, Eq)]
 pub enum Binary {
     And,
     Nand,
@@ -16,7 +17,33 @@ pub enum Binary {
     Xnor,
 }
 
-#[derive(Clone, Copy)]
+impl Binary {
+    pub fn truth_table(self) -> usize
+        ensures { result ≡ truth_table self }
+    {
+        match self {
+            Binary::And => 8,
+            Binary::Nand => 7,
+            Binary::Or => 14,
+            Binary::Nor => 1,
+            Binary::Xor => 6,
+            Binary::Xnor => 9,
+        }
+    }
+
+    // The operation of the steps before the last.
+    pub fn associative(self) -> Binary
+        ensures { result ≡ associative self }
+    {
+        match self {
+            Binary::And | Binary::Nand => Binary::And,
+            Binary::Or | Binary::Nor => Binary::Or,
+            Binary::Xor | Binary::Xnor => Binary::Xor,
+        }
+    }
+}
+
+#[derive(Clone, Copy, Debug, PartialEq, Eq)]
 pub enum Operation {
     Buf,
     Not,
@@ -24,73 +51,39 @@ pub enum Operation {
     Other,
 }
 
-pub fn binary_of(text: &[u8], start: usize, len: usize) -> Operation
-    requires { start + len ≤ length text.now }
-    ensures { result ≡ binary_of (stretch text.now start len) }
+// The letters may be in any case, so they are compared one name after the other, not by a `match` on the bytes.
+#[tactic(auto, unfolding(crate::specs::Operations::binary_of))]
+pub fn binary_of(text: &[u8], word: Word) -> Operation
+    requires { word.start + word.len ≤ length text.now }
+    ensures { result ≡ binary_of (bytes_of text.now word) }
 {
-    if is_named(text, start, len, b"AND") {
-        return Operation::Chain(Binary::And);
-    }
-    if is_named(text, start, len, b"NAND") {
-        return Operation::Chain(Binary::Nand);
-    }
-    if is_named(text, start, len, b"OR") {
-        return Operation::Chain(Binary::Or);
-    }
-    if is_named(text, start, len, b"NOR") {
-        return Operation::Chain(Binary::Nor);
-    }
-    if is_named(text, start, len, b"XOR") {
-        return Operation::Chain(Binary::Xor);
-    }
-    if is_named(text, start, len, b"XNOR") {
-        return Operation::Chain(Binary::Xnor);
-    }
-    Operation::Other
-}
-
-pub fn operation_of(text: &[u8], start: usize, len: usize) -> Operation
-    requires { start + len ≤ length text.now }
-    ensures { result ≡ operation_of (stretch text.now start len) }
-{
-    if is_named(text, start, len, b"BUFF") {
-        return Operation::Buf;
-    }
-    if is_named(text, start, len, b"BUF") {
-        return Operation::Buf;
-    }
-    if is_named(text, start, len, b"NOT") {
-        return Operation::Not;
-    }
-    if is_named(text, start, len, b"INV") {
-        return Operation::Not;
-    }
-    binary_of(text, start, len)
-}
-
-pub fn bench_binary_truth_table(operation: Binary) -> usize
-    ensures { result ≡ truth_table operation }
-{
-    match operation {
-        Binary::And => 8,
-        Binary::Nand => 7,
-        Binary::Or => 14,
-        Binary::Nor => 1,
-        Binary::Xor => 6,
-        Binary::Xnor => 9,
+    if is_named(text, word, b"AND") {
+        Operation::Chain(Binary::And)
+    } else if is_named(text, word, b"NAND") {
+        Operation::Chain(Binary::Nand)
+    } else if is_named(text, word, b"OR") {
+        Operation::Chain(Binary::Or)
+    } else if is_named(text, word, b"NOR") {
+        Operation::Chain(Binary::Nor)
+    } else if is_named(text, word, b"XOR") {
+        Operation::Chain(Binary::Xor)
+    } else if is_named(text, word, b"XNOR") {
+        Operation::Chain(Binary::Xnor)
+    } else {
+        Operation::Other
     }
 }
 
-// The operation of the steps before the last.
-pub fn associative_operation(operation: Binary) -> Binary
-    ensures { result ≡ associative operation }
+#[tactic(auto, unfolding(crate::specs::Operations::operation_of))]
+pub fn operation_of(text: &[u8], word: Word) -> Operation
+    requires { word.start + word.len ≤ length text.now }
+    ensures { result ≡ operation_of (bytes_of text.now word) }
 {
-    match operation {
-        Binary::And => Binary::And,
-        Binary::Nand => Binary::And,
-        Binary::Or => Binary::Or,
-        Binary::Nor => Binary::Or,
-        Binary::Xor => Binary::Xor,
-        Binary::Xnor => Binary::Xor,
+    if is_named(text, word, b"BUFF") || is_named(text, word, b"BUF") {
+        Operation::Buf
+    } else if is_named(text, word, b"NOT") || is_named(text, word, b"INV") {
+        Operation::Not
+    } else {
+        binary_of(text, word)
     }
 }

@@ -1,21 +1,20 @@
 // The chained gates of two and three inputs, made from their wires.
-ghost use Rattle.std.specs.Prelude.{◌≡◌, [], ◌∷◌, ℕ, ◌+◌, ◌≤◌, length};
+ghost use Rattle.std.specs.Prelude.{◌≡◌, [], ◌∷◌, ℕ, ◌+◌, ◌≤◌, length, get_or, IfOk, OnErr};
 ghost use Rattle.reading.specs.Reading.{places_in, add_named};
-ghost use Rattle.reading.specs.Holding.{outcome, held_of, Kept};
+ghost use Rattle.reading.specs.Holding.{outcome, held_of, Kept, KeptForSome};
 ghost use Rattle.bench_gates.specs.Gates.{last_cell, chain};
 
 use crate::chains::{bench_lut, push_bench_lut};
-use crate::inputs::Wires;
-use crate::operations::{Binary, bench_binary_truth_table};
+use crate::operations::Binary;
 use circuit::records::Name;
-use circuit::refusals::Checked;
-use reading::records::{Counts, Step, add_named};
+use circuit::refusals::Refusal;
+use reading::records::{Counts, add_named};
+use text::words::Word;
 
 // A cell of two wires with the gate's name: the last of a chain, or all of it.
 pub fn chain_pair(
     text: &[u8],
-    start: usize,
-    len: usize,
+    out: Word,
     operation: Binary,
     x: usize,
     y: usize,
@@ -23,68 +22,44 @@ pub fn chain_pair(
     heads: &mut [usize; 256],
     nodes: &mut [usize],
     names: &mut [usize],
-) -> Step
+) -> Result<Counts, Refusal>
     requires kept { Kept text.now heads.old nodes.old names.old counts }
-    requires len_in_bounds { start + len ≤ length text.now }
-    ensures kept_2 { Kept text.now heads.new nodes.new names.new result.counts }
-    ensures by_index { (l : ℕ) → outcome result.fault (held_of nodes.new names.new result.counts) ≡ add_named (places_in (length nodes.old) (length names.old) l) (record { start = start; len = len }) (last_cell (record { start = start; len = len }) operation x y) (held_of nodes.old names.old counts) }
+    requires len_in_bounds { out.start + out.len ≤ length text.now }
+    ensures kept_2 { IfOk result (λ c. Kept text.now heads.new nodes.new names.new c) }
+    ensures kept_refused { OnErr result (KeptForSome text.now heads.new nodes.new names.new) }
+    ensures by_index { (l : ℕ) → outcome (λ c. held_of nodes.new names.new c) result ≡ add_named (places_in (length nodes.old) (length names.old) l) out (last_cell out operation x y) (held_of nodes.old names.old counts) }
 {
-    let name = Name::Stretch { start, len };
-    let table = bench_binary_truth_table(operation);
-    let node = bench_lut(name, 2, table, x, y);
-    add_named(text, start, len, node, counts, heads, nodes, names)
+    let name = Name::Stretch {
+        start: out.start,
+        len: out.len,
+    };
+    let node = bench_lut(name, 2, operation.truth_table(), x, y);
+    add_named(text, out, node, counts, heads, nodes, names)
 }
 
 // A gate of three inputs: the step that chains the first two, then the last cell.
 pub fn chain_triple(
     text: &[u8],
-    start: usize,
-    len: usize,
+    out: Word,
     operation: Binary,
-    wires: Wires,
+    wires: [usize; 3],
     counts: Counts,
     heads: &mut [usize; 256],
     nodes: &mut [usize],
     names: &mut [usize],
-) -> Step
+) -> Result<Counts, Refusal>
     requires kept { Kept text.now heads.old nodes.old names.old counts }
-    requires len_in_bounds { start + len ≤ length text.now }
-    ensures kept_2 { Kept text.now heads.new nodes.new names.new result.counts }
-    ensures by_index { (l : ℕ) → outcome result.fault (held_of nodes.new names.new result.counts) ≡ chain (places_in (length nodes.old) (length names.old) l) (record { start = start; len = len }) operation 1 wires.first (wires.second ∷ wires.third ∷ []) (held_of nodes.old names.old counts) }
+    requires len_in_bounds { out.start + out.len ≤ length text.now }
+    ensures kept_2 { IfOk result (λ c. Kept text.now heads.new nodes.new names.new c) }
+    ensures kept_refused { OnErr result (KeptForSome text.now heads.new nodes.new names.new) }
+    ensures by_index { (l : ℕ) → outcome (λ c. held_of nodes.new names.new c) result ≡ chain (places_in (length nodes.old) (length names.old) l) out operation 1 (get_or wires 0 0) (get_or wires 1 0 ∷ get_or wires 2 0 ∷ []) (held_of nodes.old names.old counts) }
 {
+    let [x, y, z] = wires;
     let n = counts.nodes;
-    let m = counts.names;
-    let c = push_bench_lut(
-        start,
-        len,
-        operation,
-        1,
-        wires.first,
-        wires.second,
-        n,
-        nodes,
-    );
-    let fault = c.fault;
-    let made = Counts {
-        nodes: c.count,
-        names: m,
+    let made = push_bench_lut(out, operation, 1, x, y, n, nodes)?;
+    let chained = Counts {
+        nodes: made,
+        ..counts
     };
-    match fault {
-        Checked::Refused(e) => Step {
-            fault: Checked::Refused(e),
-            counts: made,
-        },
-        Checked::Sound => chain_pair(
-            text,
-            start,
-            len,
-            operation,
-            n + 2,
-            wires.third,
-            made,
-            heads,
-            nodes,
-            names,
-        ),
-    }
+    chain_pair(text, out, operation, n + 2, z, chained, heads, nodes, names)
 }

@@ -1,5 +1,6 @@
 -- The tests of an invocation, in the code's order.
 -- Assumes nothing.
+use Rattle.std.specs.Prelude.{Err, Ok}
 use Prim.Native.Nat.{ℕ, ◌+◌, ◌-◌, ◌≤◌, ◌<◌}
 use mathlib.Core.Path.{◌≡◌, refl, sym, ap, ◌∙◌}
 use mathlib.Core.Bool.{Bool, true, false}
@@ -9,29 +10,23 @@ use lib.ListN.{length}
 use borrow.Author.Tests.{lt-ltb, le-ltb, eq-eqb, ne_eqb}
 use Rattle.circuit.specs.declared.refusals.Refusal.{Refusal}
 use Rattle.circuit.specs.declared.refusals.Refusal.TheVariants.{Malformed}
-use Rattle.circuit.specs.declared.refusals.Checked.TheVariants.{Sound, Refused}
-use Rattle.circuit.specs.Refusals.{Try, no, yes, need}
+use Rattle.circuit.specs.Refusals.{Try, need}
 use Rattle.laws.specs.Stretches.{stretch, run, is_not}
 use Rattle.text.specs.Blanks.{trimmed}
 use Rattle.text.specs.declared.words.Word.{Word}
-use Rattle.reading.specs.Holding.{outcome}
 use Rattle.bench_invocations.specs.declared.invocation.Invocation.{Invocation}
 use Rattle.bench_invocations.specs.Invocations.{Invoked, between, arguments_of, none_empty, up_to_last, invocation, parse_invocation}
 use Rattle.bench_invocations.specs.Walks.{arguments_from, counted, InvokedIs, InvocationIs}
 use Rattle.bench_invocations.proofs.Parts.{arguments_over, arguments_here}
 
-no_yes : {A : Type 0} {e : Refusal} {a : A} → no e ≡ yes a → ⊥
+no_yes : {A : Type 0} {e : Refusal} {a : A} → Err e ≡ Ok a → ⊥
 no_yes q = let z : ◌≡◌ {A = ℕ} 0 1 = cc in omega arith
 
 abbrev with : Word → List Word → Invoked
 with o ws = record { operation = o; arguments = ws }
 
-abbrev pub nothing : Invocation
-nothing = record { fault = Refused Malformed; start = 0; len = 0; from = 1; end = 0; count = 0 }
-
-pub malformed : (t : List ℕ) (r : Invocation) (i : Try Invoked) → r ≡ nothing → no Malformed ≡ i → InvocationIs t r i
-unfolding arguments_from
-malformed t r i e q = record { is = rw e q; inside = rw e (omega arith); reach = rw e (omega arith); count_is = rw e }
+pub malformed : (t : List ℕ) (e : Refusal) (i : Try Invoked) → Err e ≡ i → InvocationIs t (Err e) i
+malformed t e i q = record { is = q; noted = tt }
 
 -- ---- the arguments between the parentheses
 
@@ -45,32 +40,32 @@ module _ (t : List ℕ) (operation : Word) (from end : ℕ) (fe : from ≤ end) 
   unfolding arguments_of
   some_of nz = rw (ne_eqb (trimmed t (between from end)).len 0 (λ q. nz (ap (λ (x : Word). x.len) ew ∙ q))) (sym (arguments_here t from end fe))
 
-  pub arguments_none : w.len ≡ 0 → InvokedIs t operation from end (record { fault = Sound; start = operation.start; len = operation.len; from = end + 1; end = end; count = 0 })
+  pub arguments_none : w.len ≡ 0 → InvokedIs t operation from end (Ok (record { operation = operation; from = end + 1; end = end; count = 0 }))
   arguments_none z =
       let over : arguments_from t (end + 1) end ≡ [] = arguments_over t (end + 1) end (omega arith) in
-      record { is = rw (over, none_of z) empty; inside = ol; reach = el; count_is = rw over }
+      record { is = rw (over, none_of z) empty; noted = record { inside = ol; reach = el; count_is = rw over } }
     where
-      empty : yes (with operation []) ≡ need (none_empty []) Malformed (yes (with operation []))
+      empty : Ok (with operation []) ≡ need (none_empty []) Malformed (Ok (with operation []))
       empty = unfold none_empty in refl
 
-  pub arguments_bad : (w.len ≡ 0 → ⊥) → (e : Refusal) (n : ℕ) → outcome (Refused e) n ≡ counted (arguments_from t from end) 0 → (r : Invocation) → r ≡ nothing → InvokedIs t operation from end r
-  unfolding arguments_from
-  arguments_bad nz e n q r er = record { is = rw (er, some_of nz) (go (none_empty (arguments_from t from end)) q); inside = rw er (omega arith); reach = rw er (omega arith); count_is = rw er }
+  pub arguments_bad : (w.len ≡ 0 → ⊥) → (e : Refusal) → Err e ≡ counted (arguments_from t from end) 0 → InvokedIs t operation from end (Err e)
+  arguments_bad nz e q = record { is = rw (some_of nz) (go (none_empty (arguments_from t from end)) q); noted = tt }
     where
-      go : (b : Bool) → no e ≡ need b Malformed (yes (0 + length (arguments_from t from end))) → no Malformed ≡ need b Malformed (yes (with operation (arguments_from t from end)))
+      go : (b : Bool) → Err e ≡ need b Malformed (Ok (0 + length (arguments_from t from end))) → Err e ≡ need b Malformed (Ok (with operation (arguments_from t from end)))
       go true h = absurd (no_yes h)
-      go false h = refl
+      go false h = let z : e ≡ Malformed = cc in ap Err z
 
-  pub arguments_counted : (w.len ≡ 0 → ⊥) → (n : ℕ) → outcome Sound n ≡ counted (arguments_from t from end) 0
-      → InvokedIs t operation from end (record { fault = Sound; start = operation.start; len = operation.len; from = from; end = end; count = n })
-  arguments_counted nz n q = record { is = rw (some_of nz) (made (none_empty (arguments_from t from end)) q); inside = ol; reach = el; count_is = count (none_empty (arguments_from t from end)) q }
+  pub arguments_counted : (w.len ≡ 0 → ⊥) → (n : ℕ) → Ok n ≡ counted (arguments_from t from end) 0
+      → InvokedIs t operation from end (Ok (record { operation = operation; from = from; end = end; count = n }))
+  arguments_counted nz n q =
+      record { is = rw (some_of nz) (made (none_empty (arguments_from t from end)) q); noted = record { inside = ol; reach = el; count_is = count (none_empty (arguments_from t from end)) q } }
     where
-      made : (b : Bool) → yes n ≡ need b Malformed (yes (0 + length (arguments_from t from end)))
-          → yes (with operation (arguments_from t from end)) ≡ need b Malformed (yes (with operation (arguments_from t from end)))
+      made : (b : Bool) → Ok n ≡ need b Malformed (Ok (0 + length (arguments_from t from end)))
+          → Ok (with operation (arguments_from t from end)) ≡ need b Malformed (Ok (with operation (arguments_from t from end)))
       made true h = refl
       made false h = absurd (no_yes (sym h))
 
-      count : (b : Bool) → yes n ≡ need b Malformed (yes (0 + length (arguments_from t from end))) → n ≡ length (arguments_from t from end)
+      count : (b : Bool) → Ok n ≡ need b Malformed (Ok (0 + length (arguments_from t from end))) → n ≡ length (arguments_from t from end)
       count true h =
           let z : n ≡ 0 + length (arguments_from t from end) = cc in
           omega arith
@@ -79,36 +74,34 @@ module _ (t : List ℕ) (operation : Word) (from end : ℕ) (fe : from ≤ end) 
 -- ---- the parentheses
 
 module _ (t : List ℕ) (from end opening closing : ℕ) where
-  pub lacks_opening : end ≤ opening → no Malformed ≡ invocation t from end opening closing
+  pub lacks_opening : end ≤ opening → Err Malformed ≡ invocation t from end opening closing
   unfolding invocation
   lacks_opening h = rw (le-ltb opening end h)
 
   module _ (h : opening < end) where
-    pub lacks_closing : closing ≤ opening + 1 → no Malformed ≡ invocation t from end opening closing
+    pub lacks_closing : closing ≤ opening + 1 → Err Malformed ≡ invocation t from end opening closing
     unfolding invocation
     lacks_closing k = rw (lt-ltb opening end h, le-ltb (opening + 1) closing k)
 
     module _ (k : opening + 1 < closing) (w : Word) (e : w ≡ trimmed t (between closing end)) where
-      pub more_after : (w.len ≡ 0 → ⊥) → no Malformed ≡ invocation t from end opening closing
+      pub more_after : (w.len ≡ 0 → ⊥) → Err Malformed ≡ invocation t from end opening closing
       unfolding invocation
       more_after nz = rw (lt-ltb opening end h, lt-ltb (opening + 1) closing k, ne_eqb (trimmed t (between closing end)).len 0 (λ q. nz (ap (λ (x : Word). x.len) e ∙ q)))
 
       module _ (z : w.len ≡ 0) (o : Word) (eo : o ≡ trimmed t (between from opening)) where
-        pub lacks_operation : o.len ≡ 0 → no Malformed ≡ invocation t from end opening closing
+        pub lacks_operation : o.len ≡ 0 → Err Malformed ≡ invocation t from end opening closing
         unfolding invocation
         lacks_operation y =
             rw (lt-ltb opening end h, lt-ltb (opening + 1) closing k, eq-eqb _ 0 (ap (λ (x : Word). x.len) (sym e) ∙ z), eq-eqb _ 0 (ap (λ (x : Word). x.len) (sym eo) ∙ y))
 
-        pub has_operation : (o.len ≡ 0 → ⊥) → (r : Invocation) → InvokedIs t o (opening + 1) (closing - 1) r → InvocationIs t r (invocation t from end opening closing)
+        pub has_operation : (o.len ≡ 0 → ⊥) → (r : Try Invocation) → InvokedIs t o (opening + 1) (closing - 1) r → InvocationIs t r (invocation t from end opening closing)
         unfolding invocation
         has_operation ny r i = record {
           is = rw (lt-ltb opening end h, lt-ltb (opening + 1) closing k, eq-eqb _ 0 (ap (λ (x : Word). x.len) (sym e) ∙ z), ne_eqb (trimmed t (between from opening)).len 0 (λ q. ny (ap (λ (x : Word). x.len) eo ∙ q)), ← eo) i.is;
-          inside = i.inside;
-          reach = i.reach;
-          count_is = i.count_is;
+          noted = i.noted;
         }
 
-pub parsed : (t : List ℕ) (from end opening last : ℕ) (r : Invocation) → from ≤ end → opening ≡ from + run (is_not 40) (stretch t from (end - from)) → last ≡ up_to_last 41 (stretch t from (end - from))
+pub parsed : (t : List ℕ) (from end opening last : ℕ) (r : Try Invocation) → from ≤ end → opening ≡ from + run (is_not 40) (stretch t from (end - from)) → last ≡ up_to_last 41 (stretch t from (end - from))
     → InvocationIs t r (invocation t from end opening (from + last)) → InvocationIs t r (parse_invocation t (between from end))
 unfolding parse_invocation
 parsed t from end opening last r h eo el i =

@@ -1,9 +1,9 @@
 -- An invocation of BENCH: an operation, and its arguments in parentheses.
 -- Assumes nothing.
-use Rattle.std.specs.Prelude.{ℕ, suc, ◌+◌, ◌-◌, Bool, true, cond, not, ◌&&◌, List, [], ◌∷◌, map, eqb, ltb}
+use Rattle.std.specs.Prelude.{ℕ, suc, ◌+◌, ◌-◌, Bool, true, cond, not, ◌&&◌, List, [], ◌∷◌, map, eqb, ltb, Ok}
 use Rattle.laws.specs.Stretches.{run, is_not}
 use Rattle.circuit.specs.declared.refusals.Refusal.TheVariants.{Malformed}
-use Rattle.circuit.specs.Refusals.{Try, yes, need}
+use Rattle.circuit.specs.Refusals.{Try, need}
 use Rattle.text.specs.Blanks.{trimmed}
 use Rattle.text.specs.Words.{bytes_of}
 use Rattle.text.specs.Lines.{add_first, places}
@@ -51,7 +51,7 @@ invocation t from end opening closing =
     (need (blank t (between closing end)) Malformed
     (need (not (blank t (between from opening))) Malformed
     (need (none_empty (arguments_of t (between (opening + 1) (closing - 1)))) Malformed
-    (yes (record { operation = trimmed t (between from opening); arguments = arguments_of t (between (opening + 1) (closing - 1)) }))))))
+    (Ok (record { operation = trimmed t (between from opening); arguments = arguments_of t (between (opening + 1) (closing - 1)) }))))))
 
 -- "Invocation: from the first `(` to the last `)`, only blanks after"
 unfoldable pub parse_invocation : List ℕ → Word → Try Invoked

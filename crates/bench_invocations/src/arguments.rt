@@ -1,27 +1,22 @@
 // The arguments of an invocation, one after the other.
 ghost use Rattle.std.specs.Prelude.{◌≡◌, ◌+◌, ◌-◌, ◌≤◌, length};
-ghost use Rattle.laws.specs.Stretches.{stretch};
-ghost use Rattle.reading.specs.Holding.{outcome};
+ghost use Rattle.text.specs.Words.{bytes_of};
 ghost use Rattle.bench_invocations.specs.Invocations.{up_to_last};
 ghost use Rattle.bench_invocations.specs.Walks.{arguments_from, ArgumentIs, counted};
 
-use circuit::refusals::{Checked, Refusal};
-use reading::records::Counted;
+use circuit::refusals::Refusal;
 use text::bytes::find_far_byte;
-use text::words::trim;
+use text::words::{Word, trim};
 
-// How many bytes of a stretch there are up to the last x, with it; 0 if there is none.
-pub fn find_last_byte(text: &[u8], x: u8, start: usize, len: usize) -> usize
-    requires { start + len ≤ length text.now }
-    ensures { (result ≡ up_to_last x (stretch text.now start len)) × (result ≤ len) }
+// How many bytes of a word there are up to the last x, with it; 0 if there is none.
+pub fn find_last_byte(text: &[u8], x: u8, word: Word) -> usize
+    requires { word.start + word.len ≤ length text.now }
+    ensures { (result ≡ up_to_last x (bytes_of text.now word)) × (result ≤ word.len) }
 {
-    let mut n = len;
-    while 0 < n {
-        let last = start + (n - 1);
-        if text[last] == x {
-            return n;
+    for i in (0..word.len).rev() {
+        if text[word.start + i] == x {
+            return i + 1;
         }
-        n -= 1;
     }
     0
 }
@@ -29,8 +24,7 @@ pub fn find_last_byte(text: &[u8], x: u8, start: usize, len: usize) -> usize
 // An argument, and where the next one starts: past the end if there is none.
 #[derive(Clone, Copy)]
 pub struct Argument {
-    pub start: usize,
-    pub len: usize,
+    pub word: Word,
     pub next: usize,
 }
 
@@ -38,35 +32,28 @@ pub fn next_argument(text: &[u8], at: usize, end: usize) -> Argument
     requires { (at ≤ end) × (end ≤ length text.now) }
     ensures { ArgumentIs text.now at end result }
 {
-    let cut = find_far_byte(text, 44, at, end);
-    let w = trim(text, at, cut);
+    let cut = find_far_byte(text, b',', at, end);
     Argument {
-        start: w.start,
-        len: w.len,
+        word: trim(text, at, cut),
         next: cut + 1,
     }
 }
 
 // How many arguments there are: 9 if one is empty.
-pub fn count_arguments(text: &[u8], from: usize, end: usize) -> Counted
+pub fn count_arguments(text: &[u8], from: usize, end: usize) -> Result<usize, Refusal>
     requires { (from ≤ end) × (end ≤ length text.now) }
-    ensures { outcome result.fault result.count ≡ counted (arguments_from text.now from end) 0 }
+    ensures { result ≡ counted (arguments_from text.now from end) 0 }
 {
     let mut at = from;
     let mut n = 0;
+    // Each argument says where the next one starts. An iterator would serve this loop alone, and leave the test for an empty one here.
     while at <= end {
         let a = next_argument(text, at, end);
-        if a.len == 0 {
-            return Counted {
-                fault: Checked::Refused(Refusal::Malformed),
-                count: 0,
-            };
+        if a.word.len == 0 {
+            return Err(Refusal::Malformed);
         }
         n += 1;
         at = a.next;
     }
-    Counted {
-        fault: Checked::Sound,
-        count: n,
-    }
+    Ok(n)
 }

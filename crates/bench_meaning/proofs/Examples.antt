@@ -1,10 +1,11 @@
 -- Gates lowered after three inputs, and the values of their names, by computation.
 -- Assumes nothing.
+use Rattle.std.specs.Prelude.{Err, Ok}
 use Prim.Native.Nat.{ℕ}
 use mathlib.Core.Path.{◌≡◌, refl}
 use mathlib.Core.List.{List, [], ◌∷◌, map}
 use Rattle.laws.specs.Sums.{sum}
-use Rattle.circuit.specs.Refusals.{Try, no, yes}
+use Rattle.circuit.specs.Refusals.{Try}
 use Rattle.circuit.specs.Records.{is_cell_node, wires_of}
 use Rattle.text.specs.declared.words.Word.{Word}
 use Rattle.names.specs.Names.{Entry}
@@ -34,8 +35,8 @@ newest a h [] = 9
 newest a h (e ∷ es) = wire_value a h.nodes e.wire
 
 abbrev value_in : List ℕ → Try Held → ℕ
-value_in a (no e) = 9
-value_in a (yes h) = newest a h h.names
+value_in a (Err e) = 9
+value_in a (Ok h) = newest a h h.names
 
 -- a gate of these wires under an assignment of a, b and c
 value_of : Operation → List ℕ → List ℕ → ℕ

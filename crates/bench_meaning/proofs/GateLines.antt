@@ -1,5 +1,6 @@
 -- What a line leaves that is accepted: an input with its assigned value, or a gate whose equation holds.
 -- Assumes nothing.
+use Rattle.std.specs.Prelude.{None, Ok, Option, Some}
 use Prim.Native.Nat.{ℕ, suc, ◌+◌, ◌<◌}
 use mathlib.Core.Path.{◌≡◌, refl, sym, ap, ◌∙◌, subst}
 use mathlib.Core.Bool.{Bool, true, false, cond}
@@ -10,13 +11,11 @@ use lib.ListN.{length, get_or, length-append}
 use Rattle.laws.specs.Stretches.{All}
 use Rattle.circuit.specs.declared.refusals.Refusal.TheVariants.{Malformed}
 use Rattle.circuit.specs.declared.records.BoolNode.{BoolNode}
-use Rattle.circuit.specs.Refusals.{Try, yes}
+use Rattle.circuit.specs.Refusals.{Try}
 use Rattle.circuit.specs.Records.{is_cell_node}
 use Rattle.circuit.proofs.Tries.{no_yes, yes_same, then_yes, need-yes}
 use Rattle.text.specs.Words.{bytes_of}
 use Rattle.text.specs.declared.words.Word.{Word}
-use Rattle.names.specs.declared.Found.{Found}
-use Rattle.names.specs.declared.Found.TheVariants.{At, Nothing}
 use Rattle.reading.specs.Reading.{Places, Held, find, unless_defined, driver, add_named, input_node, add_input}
 use Rattle.reading.proofs.Sound.{find_below}
 use Rattle.runs.specs.Runs.{input_count}
@@ -49,13 +48,13 @@ unfolding input_count
 count-cells [] c = refl
 count-cells (n ∷ ns) c = rw c.0 (count-cells ns c.1)
 
-undefined_yes : {A : Type 0} (f : Found) (k : Try A) (x : A) → unless_defined f k ≡ yes x → (f ≡ Nothing) × (k ≡ yes x)
-undefined_yes (At y) k x q = absurd (no_yes q)
-undefined_yes Nothing k x q = (refl, q)
+undefined_yes : {A : Type 0} (f : Option ℕ) (k : Try A) (x : A) → unless_defined f k ≡ Ok x → (f ≡ None) × (k ≡ Ok x)
+undefined_yes (Some y) k x q = absurd (no_yes q)
+undefined_yes None k x q = (refl, q)
 
-pub driver-yes : (f : Found) (x : ℕ) → driver f ≡ yes x → f ≡ At x
-driver-yes (At y) x q = ap At (yes_same q)
-driver-yes Nothing x q = absurd (no_yes q)
+pub driver-yes : (f : Option ℕ) (x : ℕ) → driver f ≡ Ok x → f ≡ Some x
+driver-yes (Some y) x q = ap Some (yes_same q)
+driver-yes None x q = absurd (no_yes q)
 
 module _ (t a : List ℕ) where
   -- ---- an input
@@ -64,7 +63,7 @@ module _ (t a : List ℕ) where
     pub read : Added t a h h' w (get_or a (input_count h.nodes) 0)
     pub counted : input_count h'.nodes ≡ suc (input_count h.nodes)
 
-  pub input_read : (p : Places) (w : Word) (h h' : Held) → HeldWired h → add_input true t p w h ≡ yes h' → InputRead h h' w
+  pub input_read : (p : Places) (w : Word) (h h' : Held) → HeldWired h → add_input true t p w h ≡ Ok h' → InputRead h h' w
   unfolding add_input is_cell_node input_count
   input_read p w h h' wd q =
       let u = undefined_yes (find true t w h.names) (add_named p w (input_node w) h) h' q in
@@ -83,7 +82,7 @@ module _ (t a : List ℕ) where
     defined : All (Defined t a h) ws
     carried : CarryAll a h.nodes xs (map (value t a h) ws)
 
-  driven : (h : Held) (ws : List Word) (xs : List ℕ) → HeldWired h → input_wires t h.names ws ≡ yes xs → Driven h ws xs
+  driven : (h : Held) (ws : List Word) (xs : List ℕ) → HeldWired h → input_wires t h.names ws ≡ Ok xs → Driven h ws xs
   unfolding input_wires
   driven h [] xs wd q = subst (Driven h []) (yes_same q) (record { defined = tt; carried = tt })
   driven h (w ∷ ws) xs wd q =
@@ -111,8 +110,8 @@ module _ (t a : List ℕ) where
     pub equation : Equation (value t a h') (record { out = out; operation = o; inputs = ws })
     pub counted : input_count h'.nodes ≡ input_count h.nodes
 
-  gate_read : (p : Places) (out : Word) (o : Operation) (ws : List Word) (xs : List ℕ) (h h' : Held) → HeldWired h → find true t out h.names ≡ Nothing → Driven h ws xs
-      → lower_gate p out o xs h ≡ yes h' → GateRead h h' out o ws
+  gate_read : (p : Places) (out : Word) (o : Operation) (ws : List Word) (xs : List ℕ) (h h' : Held) → HeldWired h → find true t out h.names ≡ None → Driven h ws xs
+      → lower_gate p out o xs h ≡ Ok h' → GateRead h h' out o ws
   gate_read p out o ws xs h h' wd new d q =
       let m = gate_means a p out o xs (map (value t a h) ws) h h' d.carried q in
       let l = m.lowered in
@@ -127,16 +126,16 @@ module _ (t a : List ℕ) where
         counted = ap input_count l.appended ∙ count_append h.nodes l.cells ∙ omega (arith, count-cells l.cells l.are_cells);
       }
 
-  invoked_read : (p : Places) (out : Word) (i : Invoked) (g : Gate) (h h' : Held) → HeldWired h → find true t out h.names ≡ Nothing → gate_invoked t h.names i ≡ yes g
-      → lower_gate p out g.operation g.inputs h ≡ yes h' → GateRead h h' out (operation_of (bytes_of t i.operation)) i.arguments
+  invoked_read : (p : Places) (out : Word) (i : Invoked) (g : Gate) (h h' : Held) → HeldWired h → find true t out h.names ≡ None → gate_invoked t h.names i ≡ Ok g
+      → lower_gate p out g.operation g.inputs h ≡ Ok h' → GateRead h h' out (operation_of (bytes_of t i.operation)) i.arguments
   unfolding gate_invoked
   invoked_read p out i g h h' wd new e q =
       let x = then_yes (input_wires t h.names i.arguments) _ g e in
       gate_read p out (operation_of (bytes_of t i.operation)) i.arguments x.0 h h' wd new (driven h i.arguments x.0 wd x.1)
-      (subst (λ (y : Gate). lower_gate p out y.operation y.inputs h ≡ yes h') (sym (yes_same x.2)) q)
+      (subst (λ (y : Gate). lower_gate p out y.operation y.inputs h ≡ Ok h') (sym (yes_same x.2)) q)
 
-  pub gate-line : (p : Places) (out expression : Word) (h h' : Held) → HeldWired h → gate_line t p out expression h ≡ yes h'
-      → (i : Invoked) × (parse_invocation t expression ≡ yes i) × GateRead h h' out (operation_of (bytes_of t i.operation)) i.arguments
+  pub gate-line : (p : Places) (out expression : Word) (h h' : Held) → HeldWired h → gate_line t p out expression h ≡ Ok h'
+      → (i : Invoked) × (parse_invocation t expression ≡ Ok i) × GateRead h h' out (operation_of (bytes_of t i.operation)) i.arguments
   unfolding gate_line gate_of
   gate-line p out expression h h' wd q =
       let g = then_yes (gate_of t out expression h.names) _ h' q in

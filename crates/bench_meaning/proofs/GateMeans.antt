@@ -1,5 +1,6 @@
 -- A gate that is accepted: its name's wire has the operation's bit of the inputs' bits, and every earlier wire its value still.
 -- Assumes nothing.
+use Rattle.std.specs.Prelude.{Ok}
 use Prim.Native.Nat.{ℕ, zero, suc, ◌+◌, ◌-◌, ◌<◌}
 use mathlib.Core.Path.{◌≡◌, refl, sym, ◌∙◌, subst}
 use mathlib.Core.Bool.{true}
@@ -7,7 +8,6 @@ use mathlib.Core.List.{List, [], ◌∷◌, ◌++◌, append_assoc, append-nil}
 use native.Mathlib.Omega.{arith}
 use lib.ListN.{length, length-append}
 use Rattle.circuit.specs.declared.records.BoolNode.{BoolNode}
-use Rattle.circuit.specs.Refusals.{yes}
 use Rattle.circuit.specs.Records.{is_cell_node}
 use Rattle.circuit.proofs.Tries.{no_yes, then_yes}
 use Rattle.cells.specs.Cells.{cell_rule}
@@ -27,13 +27,13 @@ use Rattle.bench_meaning.proofs.Values.{at_end, wire_kept, wire_new, one_answer,
 module _ (a : List ℕ) (p : Places) (out : Word) where
   -- ---- a name for a wire, and a cell with its name
 
-  alias_lowered : (x v : ℕ) (h h' : Held) → Carries a h.nodes x v → add_alias p out x h ≡ yes h' → Lowered a out v h h'
+  alias_lowered : (x v : ℕ) (h h' : Held) → Carries a h.nodes x v → add_alias p out x h ≡ Ok h' → Lowered a out v h h'
   unfolding add_alias
   alias_lowered x v h h' c q =
       subst (Lowered a out v h) (name_made p.names out x h.nodes h.names h' q)
       (record { cells = []; are_cells = tt; appended = sym (append-nil h.nodes); wire = x; named = refl; carries = c; kept = λ y b. refl })
 
-  named_lowered : (n : BoolNode) (v : ℕ) (h h' : Held) → is_cell_node n ≡ true → at_end a h.nodes n ≡ v → add_named p out n h ≡ yes h' → Lowered a out v h h'
+  named_lowered : (n : BoolNode) (v : ℕ) (h h' : Held) → is_cell_node n ≡ true → at_end a h.nodes n ≡ v → add_named p out n h ≡ Ok h' → Lowered a out v h h'
   named_lowered n v h h' c e q =
       subst (Lowered a out v h) (named_made p out n h h' q)
       (record {
@@ -60,7 +60,7 @@ module _ (a : List ℕ) (p : Places) (out : Word) where
     kept = λ y b. l.kept y (omega (arith, b, length-append h.nodes (n ∷ []))) ∙ wire_kept a h.nodes (n ∷ []) y b;
   }
 
-  chain_lowered : (o : Binary) (ys us : List ℕ) (k x v : ℕ) (h h' : Held) → Carries a h.nodes x v → CarryAll a h.nodes ys us → chain p out o k x ys h ≡ yes h'
+  chain_lowered : (o : Binary) (ys us : List ℕ) (k x v : ℕ) (h h' : Held) → Carries a h.nodes x v → CarryAll a h.nodes ys us → chain p out o k x ys h ≡ Ok h'
       → Lowered a out (chain_value o v us) h h'
   unfolding chain chain_value is_cell_node
   chain_lowered o [] us k x v h h' c cs q = absurd (no_yes q)
@@ -79,7 +79,7 @@ module _ (a : List ℕ) (p : Places) (out : Word) where
       } in
       step_lowered n _ h h' refl
       (chain_lowered o (z ∷ zs) (w ∷ ws) (suc k) (length h.nodes + 2) (step_value o v u) (with_nodes (h.nodes ++ n ∷ []) h.names) h' new (all_kept a h.nodes (n ∷ []) (z ∷ zs) (w ∷ ws) cs.1)
-      (subst (λ (ns : List BoolNode). chain p out o (suc k) (length h.nodes + 2) (z ∷ zs) (with_nodes ns h.names) ≡ yes h') (sym (node_made p.nodes n h.nodes r.0 r.1)) r.2))
+      (subst (λ (ns : List BoolNode). chain p out o (suc k) (length h.nodes + 2) (z ∷ zs) (with_nodes ns h.names) ≡ Ok h') (sym (node_made p.nodes n h.nodes r.0 r.1)) r.2))
 
   -- ---- every operation
 
@@ -88,7 +88,7 @@ module _ (a : List ℕ) (p : Places) (out : Word) where
   inverted (suc zero) b = refl
   inverted (suc (suc v)) b = absurd (omega arith)
 
-  pub gate_means : (o : Operation) (xs vs : List ℕ) (h h' : Held) → CarryAll a h.nodes xs vs → lower_gate p out o xs h ≡ yes h' → GateMeans a out o vs h h'
+  pub gate_means : (o : Operation) (xs vs : List ℕ) (h h' : Held) → CarryAll a h.nodes xs vs → lower_gate p out o xs h ≡ Ok h' → GateMeans a out o vs h h'
   unfolding lower_gate chained chain is_cell_node
   gate_means Buf [] vs h h' c q = absurd (no_yes q)
   gate_means Buf (x ∷ []) [] h h' c q = absurd c

@@ -1,5 +1,6 @@
 -- What has been read, and more of it: every name keeps its wire and every wire its value.
 -- Assumes nothing.
+use Rattle.std.specs.Prelude.{None, Option, Some}
 use Prim.Native.Nat.{ℕ, ◌+◌, ◌≤◌, ◌<◌}
 use mathlib.Core.Path.{◌≡◌, refl, sym, ap, ap₂, ◌∙◌, subst}
 use mathlib.Core.Bool.{true, false}
@@ -12,8 +13,6 @@ use Rattle.circuit.specs.declared.records.BoolWire.TheVariants.{Const}
 use Rattle.circuit.specs.Records.{wire_of}
 use Rattle.text.specs.declared.words.Word.{Word}
 use Rattle.names.specs.Names.{Entry}
-use Rattle.names.specs.declared.Found.{Found}
-use Rattle.names.specs.declared.Found.TheVariants.{At, Nothing}
 use Rattle.reading.specs.Reading.{Held, find}
 use Rattle.reading.proofs.Sound.{Wired, wired_more, find_below}
 use Rattle.runs.specs.Values.{signal_value, storage_values}
@@ -22,9 +21,9 @@ use Rattle.bench_meaning.specs.TextMeaning.{name_value}
 use Rattle.bench_meaning.proofs.Records.{entry}
 use Rattle.bench_meaning.proofs.Naming.{found_in, find-is, find_new, find-kept}
 
-abbrev pub wire_at : Found → BoolWire
-wire_at (At x) = wire_of x
-wire_at Nothing = Const false
+abbrev pub wire_at : Option ℕ → BoolWire
+wire_at (Some x) = wire_of x
+wire_at None = Const false
 
 -- the wire that bytes stand for
 abbrev pub wire_named : List ℕ → List Entry → List ℕ → BoolWire
@@ -38,14 +37,14 @@ module _ (t a : List ℕ) where
   value h w = name_value t h.nodes (wire_named t h.names) a w
 
   abbrev pub Defined : Held → Word → Type 0
-  Defined h w = (x : ℕ) × (find true t w h.names ≡ At x)
+  Defined h w = (x : ℕ) × (find true t w h.names ≡ Some x)
 
-  pub value_at : (h : Held) (w : Word) (x : ℕ) → find true t w h.names ≡ At x → value h w ≡ wire_value a h.nodes x
+  pub value_at : (h : Held) (w : Word) (x : ℕ) → find true t w h.names ≡ Some x → value h w ≡ wire_value a h.nodes x
   unfolding wire_value
-  value_at h w x q = ap (λ (f : Found). signal_value (storage_values h.nodes a) (wire_at f)) (sym (find-is t w h.names) ∙ q)
+  value_at h w x q = ap (λ (f : Option ℕ). signal_value (storage_values h.nodes a) (wire_at f)) (sym (find-is t w h.names) ∙ q)
 
   pub record Grows (h h' : Held) : Type 0 where
-    pub names : (w : Word) (x : ℕ) → find true t w h.names ≡ At x → find true t w h'.names ≡ At x
+    pub names : (w : Word) (x : ℕ) → find true t w h.names ≡ Some x → find true t w h'.names ≡ Some x
     pub wires : (x : ℕ) → x < length h.nodes + 2 → wire_value a h'.nodes x ≡ wire_value a h.nodes x
     pub more : length h.nodes ≤ length h'.nodes
 
@@ -84,12 +83,12 @@ module _ (t a : List ℕ) where
     pub defined : Defined h' w
     pub is : value h' w ≡ v
 
-  pub added : (h h' : Held) (w : Word) (x v : ℕ) → HeldWired h → find true t w h.names ≡ Nothing → h'.names ≡ entry w x ∷ h.names
+  pub added : (h h' : Held) (w : Word) (x v : ℕ) → HeldWired h → find true t w h.names ≡ None → h'.names ≡ entry w x ∷ h.names
       → ((y : ℕ) → y < length h.nodes + 2 → wire_value a h'.nodes y ≡ wire_value a h.nodes y) → length h.nodes ≤ length h'.nodes → Carries a h'.nodes x v → Added h h' w v
   added h h' w x v wd new e kept more c =
-      let found : find true t w h'.names ≡ At x = subst (λ (es : List Entry). find true t w es ≡ At x) (sym e) (find_new t w x h.names new) in
+      let found : find true t w h'.names ≡ Some x = subst (λ (es : List Entry). find true t w es ≡ Some x) (sym e) (find_new t w x h.names new) in
       record {
-        grows = record { names = λ u y q. subst (λ (es : List Entry). find true t u es ≡ At y) (sym e) (find-kept t w u x y h.names new q); wires = kept; more = more };
+        grows = record { names = λ u y q. subst (λ (es : List Entry). find true t u es ≡ Some y) (sym e) (find-kept t w u x y h.names new q); wires = kept; more = more };
         wired = subst (Wired (length h'.nodes)) (sym e) (c.there, wired_more (length h.nodes) (length h'.nodes) more h.names wd);
         defined = (x, found);
         is = value_at h' w x found ∙ c.value;

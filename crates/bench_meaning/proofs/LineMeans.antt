@@ -1,5 +1,6 @@
 -- What a line that is accepted adds to what has been read: its inputs, its gate's equation, its outputs.
 -- Assumes nothing.
+use Rattle.std.specs.Prelude.{Err, Ok}
 use Prim.Native.Nat.{ℕ, ◌+◌}
 use mathlib.Core.Path.{◌≡◌, sym, ap, ◌∙◌, subst}
 use mathlib.Core.Bool.{Bool, true, false, cond}
@@ -10,7 +11,7 @@ use lib.Dec.{ltb}
 use lib.ListN.{length}
 use Rattle.laws.specs.Stretches.{All}
 use Rattle.circuit.specs.declared.refusals.Refusal.TheVariants.{NoRoom}
-use Rattle.circuit.specs.Refusals.{Try, no, yes, and_then}
+use Rattle.circuit.specs.Refusals.{Try, and_then}
 use Rattle.circuit.proofs.Tries.{no_yes, yes_same, then_yes, need-yes}
 use Rattle.text.specs.Blanks.{trimmed}
 use Rattle.text.specs.declared.words.Word.{Word}
@@ -24,15 +25,15 @@ use Rattle.bench_meaning.specs.TextMeaning.{cut_of, is_gate, GateLine, gate_said
 use Rattle.bench_meaning.proofs.Growing.{HeldWired, value, Defined, Grows, grows_none}
 use Rattle.bench_meaning.proofs.GateLines.{input_read, gate-line}
 
-held_yes : (os : List Word) (r : Try Held) (s : State) → with_held os r ≡ yes s → (r ≡ yes s.held) × (s.outputs ≡ os)
-held_yes os (no e) s q = absurd (no_yes q)
-held_yes os (yes h) s q = (ap (λ (x : State). yes x.held) (yes_same q), sym (ap (λ (x : State). x.outputs) (yes_same q)))
+held_yes : (os : List Word) (r : Try Held) (s : State) → with_held os r ≡ Ok s → (r ≡ Ok s.held) × (s.outputs ≡ os)
+held_yes os (Err e) s q = absurd (no_yes q)
+held_yes os (Ok h) s q = (ap (λ (x : State). Ok x.held) (yes_same q), sym (ap (λ (x : State). x.outputs) (yes_same q)))
 
-outputs-yes : (h : Held) (r : Try (List Word)) (s : State) → with_outputs h r ≡ yes s → (r ≡ yes s.outputs) × (h ≡ s.held)
-outputs-yes h (no e) s q = absurd (no_yes q)
-outputs-yes h (yes os) s q = (ap (λ (x : State). yes x.outputs) (yes_same q), ap (λ (x : State). x.held) (yes_same q))
+outputs-yes : (h : Held) (r : Try (List Word)) (s : State) → with_outputs h r ≡ Ok s → (r ≡ Ok s.outputs) × (h ≡ s.held)
+outputs-yes h (Err e) s q = absurd (no_yes q)
+outputs-yes h (Ok os) s q = (ap (λ (x : State). Ok x.outputs) (yes_same q), ap (λ (x : State). x.held) (yes_same q))
 
-output_made : (room : ℕ) (w : Word) (os os' : List Word) → add_output room w os ≡ yes os' → os' ≡ os ++ w ∷ []
+output_made : (room : ℕ) (w : Word) (os os' : List Word) → add_output room w os ≡ Ok os' → os' ≡ os ++ w ∷ []
 unfolding add_output
 output_made room w os os' q = sym (yes_same (need-yes (ltb (length os) room) NoRoom _ os' q).1)
 
@@ -57,7 +58,7 @@ module _ (t a : List ℕ) where
     pub collects : s'.outputs ≡ s.outputs ++ outs
 
   module _ (p : Places) (s s' : State) (wd : HeldWired s.held) where
-    gate_case : (out expression : Word) → with_held s.outputs (gate_line t p out expression s.held) ≡ yes s' → LineRead [] (gate_said t out (parse_invocation t expression)) [] s s'
+    gate_case : (out expression : Word) → with_held s.outputs (gate_line t p out expression s.held) ≡ Ok s' → LineRead [] (gate_said t out (parse_invocation t expression)) [] s s'
     gate_case out expression q =
         let y = held_yes s.outputs (gate_line t p out expression s.held) s' q in
         let g = gate-line t a p out expression s.held s'.held wd y.0 in
@@ -74,7 +75,7 @@ module _ (t a : List ℕ) where
           collects = y.1 ∙ sym (append-nil s.outputs);
         })
 
-    input_case : (w : Word) → with_held s.outputs (add_input true t p w s.held) ≡ yes s' → LineRead (w ∷ []) [] [] s s'
+    input_case : (w : Word) → with_held s.outputs (add_input true t p w s.held) ≡ Ok s' → LineRead (w ∷ []) [] [] s s'
     input_case w q =
         let y = held_yes s.outputs (add_input true t p w s.held) s' q in
         let i = input_read t a p w s.held s'.held wd y.0 in
@@ -89,7 +90,7 @@ module _ (t a : List ℕ) where
           collects = y.1 ∙ sym (append-nil s.outputs);
         }
 
-    output_case : (w : Word) → with_outputs s.held (add_output p.outputs w s.outputs) ≡ yes s' → LineRead [] [] (w ∷ []) s s'
+    output_case : (w : Word) → with_outputs s.held (add_output p.outputs w s.outputs) ≡ Ok s' → LineRead [] [] (w ∷ []) s s'
     output_case w q =
         let y = outputs-yes s.held (add_output p.outputs w s.outputs) s' q in
         record {
@@ -103,25 +104,25 @@ module _ (t a : List ℕ) where
           collects = output_made p.outputs w s.outputs s'.outputs y.0;
         }
 
-    declaration_case : (d : Declaration) (w : Word) → declare t p d w s ≡ yes s' → LineRead (input_named d w) [] (output_named d w) s s'
+    declaration_case : (d : Declaration) (w : Word) → declare t p d w s ≡ Ok s' → LineRead (input_named d w) [] (output_named d w) s s'
     unfolding declare
     declaration_case Input w q = input_case w q
     declaration_case Output w q = output_case w q
     declaration_case Other w q = absurd (no_yes q)
 
-    pub line_read : (l : Word) → read_line t p l s ≡ yes s' → LineRead (declared_by input_named t l) (gate_in t l) (declared_by output_named t l) s s'
+    pub line_read : (l : Word) → read_line t p l s ≡ Ok s' → LineRead (declared_by input_named t l) (gate_in t l) (declared_by output_named t l) s s'
     unfolding read_line line_step declaration_line
     line_read l q = go (is_gate t l) q
       where
         whole : Word
         whole = between l.start (l.start + l.len)
 
-        by : (d : Declared) → declared_in t whole ≡ yes d → declare t p d.declaration d.name s ≡ yes s' → LineRead (said input_named (declared_in t whole)) [] (said output_named (declared_in t whole)) s s'
+        by : (d : Declared) → declared_in t whole ≡ Ok d → declare t p d.declaration d.name s ≡ Ok s' → LineRead (said input_named (declared_in t whole)) [] (said output_named (declared_in t whole)) s s'
         by d e r = subst (λ (x : Try Declared). LineRead (said input_named x) [] (said output_named x) s s') (sym e) (declaration_case d.declaration d.name r)
 
         go : (b : Bool)
             → cond b (with_held s.outputs (gate_line t p (trimmed t (between l.start (cut_of t l))) (between (cut_of t l + 1) (l.start + l.len)) s.held))
-            (and_then (declared_in t whole) (λ d. declare t p d.declaration d.name s)) ≡ yes s'
+            (and_then (declared_in t whole) (λ d. declare t p d.declaration d.name s)) ≡ Ok s'
             → LineRead (cond b [] (said input_named (declared_in t whole)))
             (cond b (gate_said t (trimmed t (between l.start (cut_of t l))) (parse_invocation t (between (cut_of t l + 1) (l.start + l.len)))) [])
             (cond b [] (said output_named (declared_in t whole))) s s'

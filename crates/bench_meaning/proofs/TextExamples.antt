@@ -1,11 +1,12 @@
 -- A text's inputs, outputs and gate, and the outputs of its circuit, by computation.
 -- Assumes nothing.
+use Rattle.std.specs.Prelude.{Err, Ok}
 use Prim.Native.Nat.{ℕ}
 use mathlib.Core.Path.{◌≡◌, refl}
 use mathlib.Core.List.{List, [], ◌∷◌, map}
 use Rattle.laws.specs.Areas.{capacity}
 use Rattle.laws.specs.Stretches.{stretch, run, same_bytes}
-use Rattle.circuit.specs.Refusals.{Try, no, yes}
+use Rattle.circuit.specs.Refusals.{Try}
 use Rattle.circuit.specs.Records.{is_cell_node, wires_of}
 use Rattle.circuit.specs.Circuits.{Circuit}
 use Rattle.text.specs.Bytes.{is_ascii, upper}
@@ -45,8 +46,8 @@ gate = refl
 
 -- the outputs of its circuit under every assignment of bits, and under some with unknowns
 abbrev outputs_in : List ℕ → Try Circuit → List ℕ
-outputs_in a (no e) = []
-outputs_in a (yes c) = storage_outputs c.nodes (wires_out c) a
+outputs_in a (Err e) = []
+outputs_in a (Ok c) = storage_outputs c.nodes (wires_out c) a
 
 outputs : List ℕ → List ℕ
 outputs a = outputs_in a (bench text 64 45 16 5)

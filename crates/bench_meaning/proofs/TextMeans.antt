@@ -1,5 +1,6 @@
 -- The whole text: the circuit that the BENCH reader gives means what the text says, under every assignment.
 -- Assumes nothing.
+use Rattle.std.specs.Prelude.{Err, Ok}
 use Prim.Native.Nat.{ℕ, suc, ◌+◌, ◌<◌}
 use mathlib.Core.Path.{◌≡◌, refl, sym, ap, ap₂, ◌∙◌, subst}
 use mathlib.Core.Bool.{true}
@@ -12,7 +13,7 @@ use Rattle.laws.proofs.Stretches.{all_append}
 use Rattle.circuit.specs.declared.records.BoolWire.{BoolWire}
 use Rattle.circuit.specs.declared.records.BoolNode.{BoolNode}
 use Rattle.circuit.specs.declared.records.Output.{Output}
-use Rattle.circuit.specs.Refusals.{Try, no, yes, and_then}
+use Rattle.circuit.specs.Refusals.{Try, and_then}
 use Rattle.circuit.specs.Circuits.{Circuit}
 use Rattle.circuit.proofs.Tries.{no_yes, yes_same, then_yes, check_yes}
 use Rattle.text.specs.Words.{bytes_of}
@@ -84,7 +85,7 @@ module _ (t a : List ℕ) where
     collects = k.collects ∙ ap (λ (os : List Word). os ++ declared output_named t ls) r.collects ∙ append_assoc s.outputs (declared_by output_named t l) (declared output_named t ls);
   }
 
-  lines_read : (p : Places) (ls : List Word) (s s' : State) → HeldWired s.held → each (read_line t p) ls s ≡ yes s' → Reads ls s s'
+  lines_read : (p : Places) (ls : List Word) (s s' : State) → HeldWired s.held → each (read_line t p) ls s ≡ Ok s' → Reads ls s s'
   unfolding each gates declared
   lines_read p [] s s' wd q =
       subst (Reads [] s) (yes_same q) (record { grows = grows_none t a s.held; wired = wd; assigned = tt; equations = tt; collects = sym (append-nil s.outputs) })
@@ -95,7 +96,7 @@ module _ (t a : List ℕ) where
 
   -- ---- the end
 
-  resolved : (h : Held) (ws : List Word) (os : List Out) → resolve true t h.names ws ≡ yes os
+  resolved : (h : Held) (ws : List Word) (os : List Out) → resolve true t h.names ws ≡ Ok os
       → map (signal_value (storage_values h.nodes a)) (map (λ (o : Output). o.wire) (map output_of os)) ≡ map (value t a h) ws
   unfolding resolve wire_value
   resolved h [] os q = subst (λ (l : List Out). map (signal_value (storage_values h.nodes a)) (map (λ (o : Output). o.wire) (map output_of l)) ≡ []) (yes_same q) refl
@@ -105,15 +106,15 @@ module _ (t a : List ℕ) where
       subst (λ (l : List Out). map (signal_value (storage_values h.nodes a)) (map (λ (o : Output). o.wire) (map output_of l)) ≡ map (value t a h) (w ∷ ws)) (yes_same r.2)
       (ap₂ (λ (v : ℕ) (vs : List ℕ). v ∷ vs) (sym (value_at t a h w x.0 (driver-yes (find true t w h.names) x.0 x.1))) (resolved h ws r.0 r.1))
 
-closed-yes : (t : List ℕ) (s : State) (c : Circuit) → finish true t s ≡ yes c → (os : List Out) × (resolve true t s.held.names s.outputs ≡ yes os) × (record { nodes = s.held.nodes; outputs = map output_of os } ≡ c)
+closed-yes : (t : List ℕ) (s : State) (c : Circuit) → finish true t s ≡ Ok c → (os : List Out) × (resolve true t s.held.names s.outputs ≡ Ok os) × (record { nodes = s.held.nodes; outputs = map output_of os } ≡ c)
 unfolding finish closed
 closed-yes t s c q = go (resolve true t s.held.names s.outputs) refl q
   where
-    go : (r : Try (List Out)) → resolve true t s.held.names s.outputs ≡ r → and_then r (closed s.held.nodes) ≡ yes c
-        → (os : List Out) × (resolve true t s.held.names s.outputs ≡ yes os) × (record { nodes = s.held.nodes; outputs = map output_of os } ≡ c)
-    go (no e) p z = absurd (no_yes z)
-    go (yes []) p z = absurd (no_yes z)
-    go (yes (o ∷ os)) p z = (o ∷ os, p, yes_same z)
+    go : (r : Try (List Out)) → resolve true t s.held.names s.outputs ≡ r → and_then r (closed s.held.nodes) ≡ Ok c
+        → (os : List Out) × (resolve true t s.held.names s.outputs ≡ Ok os) × (record { nodes = s.held.nodes; outputs = map output_of os } ≡ c)
+    go (Err e) p z = absurd (no_yes z)
+    go (Ok []) p z = absurd (no_yes z)
+    go (Ok (o ∷ os)) p z = (o ∷ os, p, yes_same z)
 
 -- ---- the theorem
 
@@ -124,7 +125,7 @@ storage_is ns ws a = refl
 known_wire : (ns : List BoolNode) (a : List ℕ) → Known a → (w : BoolWire) → signal_value (storage_values ns a) w < 2
 known_wire ns a k w = (subst (Each (λ v. v < 2)) (sym (evaluate_same ns (w ∷ []) a k) ∙ storage_is ns (w ∷ []) a) (outputs_known ns (w ∷ []) a k)).0
 
-module _ (t : List ℕ) (p : Places) (s : State) (read : each (read_line t p) (lines 0 t) start ≡ yes s) (os : List Out) (ends : resolve true t s.held.names s.outputs ≡ yes os) where
+module _ (t : List ℕ) (p : Places) (s : State) (read : each (read_line t p) (lines 0 t) start ≡ Ok s) (os : List Out) (ends : resolve true t s.held.names s.outputs ≡ Ok os) where
   abbrev outs : List BoolWire
   outs = map (λ (o : Output). o.wire) (map output_of os)
 
@@ -145,7 +146,7 @@ module _ (t : List ℕ) (p : Places) (s : State) (read : each (read_line t p) (l
       }
 
 -- there is a wire for each name, and under every assignment the text's equations hold
-pub bench_means : (text : List ℕ) (j n m o : ℕ) (c : Circuit) → bench text j n m o ≡ yes c
+pub bench_means : (text : List ℕ) (j n m o : ℕ) (c : Circuit) → bench text j n m o ≡ Ok c
     → (wire : List ℕ → BoolWire) × ((a : List ℕ) → Means (joined_text text) (lines 0 (joined_text text)) c.nodes (wires_out c) wire a)
 unfolding read_text bench_lines
 bench_means text j n m o c q =

@@ -1,12 +1,12 @@
 -- What a BENCH text says: the inputs and outputs that it declares and the equations of its gates, by the lines of its joined text.
 -- A name is a stretch of the joined text; its bytes decide what it stands for.
 -- Assumes nothing.
-use Rattle.std.specs.Prelude.{ℕ, suc, ◌+◌, ◌<◌, ◌≡◌, Bool, true, false, cond, List, [], ◌∷◌, ◌++◌, map, ltb, get_or}
+use Rattle.std.specs.Prelude.{ℕ, suc, ◌+◌, ◌<◌, ◌≡◌, Bool, true, false, cond, List, [], ◌∷◌, ◌++◌, map, ltb, get_or, Err, Ok}
 use Rattle.laws.specs.Stretches.{run, is_not, All}
 use Rattle.circuit.specs.declared.records.BoolWire.{BoolWire}
 use Rattle.circuit.specs.declared.records.BoolWire.TheVariants.{Const}
 use Rattle.circuit.specs.declared.records.BoolNode.{BoolNode}
-use Rattle.circuit.specs.Refusals.{Try, no, yes}
+use Rattle.circuit.specs.Refusals.{Try}
 use Rattle.text.specs.Blanks.{trimmed}
 use Rattle.text.specs.Words.{bytes_of}
 use Rattle.text.specs.declared.words.Word.{Word}
@@ -37,8 +37,8 @@ pub record GateLine : Type 0 where
 
 -- "Invocation: from the first `(` to the last `)`", "letters of the operation in any case; names trimmed"
 abbrev pub gate_said : List ℕ → Word → Try Invoked → List GateLine
-gate_said t out (no e) = []
-gate_said t out (yes i) = record { out = out; operation = operation_of (bytes_of t i.operation); inputs = i.arguments } ∷ []
+gate_said t out (Err e) = []
+gate_said t out (Ok i) = record { out = out; operation = operation_of (bytes_of t i.operation); inputs = i.arguments } ∷ []
 
 abbrev pub gate_in : List ℕ → Word → List GateLine
 gate_in t l = cond (is_gate t l) (gate_said t (trimmed t (between l.start (cut_of t l))) (parse_invocation t (between (cut_of t l + 1) (l.start + l.len)))) []
@@ -60,8 +60,8 @@ output_named Output w = w ∷ []
 output_named Other w = []
 
 abbrev pub said : (Declaration → Word → List Word) → Try Declared → List Word
-said f (no e) = []
-said f (yes d) = f d.declaration d.name
+said f (Err e) = []
+said f (Ok d) = f d.declaration d.name
 
 -- the names that lines declare, in order: those of `INPUT` or those of `OUTPUT`
 unfoldable pub declared : (Declaration → Word → List Word) → List ℕ → List Word → List Word

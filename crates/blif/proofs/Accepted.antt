@@ -1,5 +1,6 @@
 -- What it tells that a gate, a directive or a text was accepted.
 -- Assumes nothing.
+use Rattle.std.specs.Prelude.{Err, None, Ok, Option, Some}
 use Prim.Native.Nat.{ℕ, ◌≤◌}
 use mathlib.Core.Path.{◌≡◌, refl, sym, ap, subst}
 use mathlib.Core.Bool.{Bool, true, false}
@@ -8,47 +9,43 @@ use lib.ListN.{length}
 use lib.Dec.{leb}
 use borrow.Author.Tests.{leb-true}
 use Rattle.circuit.specs.declared.refusals.Refusal.TheVariants.{WrongCount, Malformed}
-use Rattle.circuit.specs.Refusals.{Try, no, yes, and_then}
+use Rattle.circuit.specs.Refusals.{Try, and_then}
 use Rattle.circuit.specs.Circuits.{Circuit}
 use Rattle.circuit.proofs.Tries.{no_yes, yes_same, then_yes, need-yes, check_yes}
 use Rattle.text.specs.Lines.{lines, line_words}
 use Rattle.text.specs.Joining.{joined_text}
 use Rattle.text.specs.declared.words.Word.{Word}
-use Rattle.names.specs.declared.Found.{Found}
-use Rattle.names.specs.declared.Found.TheVariants.{At, Nothing}
-use Rattle.cover.specs.declared.rows.Cover.{Cover}
-use Rattle.cover.specs.declared.rows.Cover.TheVariants.{Value, Bad}
 use Rattle.cover.specs.Cover.{last_of, cover}
 use Rattle.cover.specs.Directives.{dotted, directive_of, rest_of, rows_of}
 use Rattle.reading.specs.Reading.{Places, places_in, Held, State, start, find, unless_defined, finish, text_fault}
 use Rattle.reading.specs.Areas.{read_text}
 use Rattle.blif.specs.Blif.{drivers, input_names, gate, Plan, covered, plan, names_line, with_held, with_outputs, directive_step, line_step, read_lines, blif_lines, blif}
 
-pub undefined_yes : {A : Type 0} (f : Found) (k : Try A) (a : A) → unless_defined f k ≡ yes a → (f ≡ Nothing) × (k ≡ yes a)
-undefined_yes (At x) k a q = absurd (no_yes q)
-undefined_yes Nothing k a q = (refl, q)
+pub undefined_yes : {A : Type 0} (f : Option ℕ) (k : Try A) (a : A) → unless_defined f k ≡ Ok a → (f ≡ None) × (k ≡ Ok a)
+undefined_yes (Some x) k a q = absurd (no_yes q)
+undefined_yes None k a q = (refl, q)
 
-covered-yes : (out : Word) (xs : List ℕ) (c : Cover) (g : Plan) → covered out xs c ≡ yes g → (table : ℕ) × (c ≡ Value table) × (record { out = out; wires = xs; table = table } ≡ g)
+covered-yes : (out : Word) (xs : List ℕ) (c : Option ℕ) (g : Plan) → covered out xs c ≡ Ok g → (table : ℕ) × (c ≡ Some table) × (record { out = out; wires = xs; table = table } ≡ g)
 unfolding covered
-covered-yes out xs Bad g q = absurd (no_yes q)
-covered-yes out xs (Value table) g q = (table, refl, yes_same q)
+covered-yes out xs None g q = absurd (no_yes q)
+covered-yes out xs (Some table) g q = (table, refl, yes_same q)
 
 -- ---- a `.names` line
 
-pub names-none : (t : List ℕ) (p : Places) (rows : List (List Word)) (h h' : Held) → names_line t p [] rows h ≡ yes h' → ⊥
+pub names-none : (t : List ℕ) (p : Places) (rows : List (List Word)) (h h' : Held) → names_line t p [] rows h ≡ Ok h' → ⊥
 unfolding names_line plan
 names-none t p rows h h' q = no_yes q
 
 pub record NamesYes (t : List ℕ) (p : Places) (w : Word) (ws : List Word) (rows : List (List Word)) (h h' : Held) : Type 0 where
-  pub new : find false t (last_of w ws) h.names ≡ Nothing
+  pub new : find false t (last_of w ws) h.names ≡ None
   pub few : length (input_names w ws) ≤ 2
   pub wires : List ℕ
-  pub driven : drivers t h.names (input_names w ws) ≡ yes wires
+  pub driven : drivers t h.names (input_names w ws) ≡ Ok wires
   pub table : ℕ
-  pub rows_are : cover t (length (input_names w ws)) rows ≡ Value table
-  pub made : gate p (last_of w ws) wires table h ≡ yes h'
+  pub rows_are : cover t (length (input_names w ws)) rows ≡ Some table
+  pub made : gate p (last_of w ws) wires table h ≡ Ok h'
 
-pub names-yes : (t : List ℕ) (p : Places) (w : Word) (ws : List Word) (rows : List (List Word)) (h h' : Held) → names_line t p (w ∷ ws) rows h ≡ yes h' → NamesYes t p w ws rows h h'
+pub names-yes : (t : List ℕ) (p : Places) (w : Word) (ws : List Word) (rows : List (List Word)) (h h' : Held) → names_line t p (w ∷ ws) rows h ≡ Ok h' → NamesYes t p w ws rows h h'
 unfolding names_line plan
 names-yes t p w ws rows h h' q =
     let g = then_yes (plan t (w ∷ ws) rows h.names) (λ g. gate p g.out g.wires g.table h) h' q in
@@ -63,33 +60,33 @@ names-yes t p w ws rows h h' q =
       driven = d.1;
       table = c.0;
       rows_are = c.1;
-      made = subst (λ (x : Plan). gate p x.out x.wires x.table h ≡ yes h') (sym c.2) g.2;
+      made = subst (λ (x : Plan). gate p x.out x.wires x.table h ≡ Ok h') (sym c.2) g.2;
     }
 
 -- ---- lines
 
-pub held_yes : (os : List Word) (r : Try Held) (s : State) → with_held os r ≡ yes s → (r ≡ yes s.held) × (s.outputs ≡ os)
-held_yes os (no e) s q = absurd (no_yes q)
-held_yes os (yes h) s q = let e = yes_same q in (ap (λ (x : State). yes x.held) e, sym (ap (λ (x : State). x.outputs) e))
+pub held_yes : (os : List Word) (r : Try Held) (s : State) → with_held os r ≡ Ok s → (r ≡ Ok s.held) × (s.outputs ≡ os)
+held_yes os (Err e) s q = absurd (no_yes q)
+held_yes os (Ok h) s q = let e = yes_same q in (ap (λ (x : State). Ok x.held) e, sym (ap (λ (x : State). x.outputs) e))
 
-pub outputs-yes : (h : Held) (r : Try (List Word)) (s : State) → with_outputs h r ≡ yes s → (r ≡ yes s.outputs) × (s.held ≡ h)
-outputs-yes h (no e) s q = absurd (no_yes q)
-outputs-yes h (yes os) s q = let e = yes_same q in (ap (λ (x : State). yes x.outputs) e, sym (ap (λ (x : State). x.held) e))
+pub outputs-yes : (h : Held) (r : Try (List Word)) (s : State) → with_outputs h r ≡ Ok s → (r ≡ Ok s.outputs) × (s.held ≡ h)
+outputs-yes h (Err e) s q = absurd (no_yes q)
+outputs-yes h (Ok os) s q = let e = yes_same q in (ap (λ (x : State). Ok x.outputs) e, sym (ap (λ (x : State). x.held) e))
 
 -- a line is a directive or a row
-pub line_yes : (t : List ℕ) (p : Places) (row : Bool) (l : Word) (ls : List Word) (s s' : State) → line_step t p row l ls s ≡ yes s'
-    → (dotted t l ≡ true → directive_step t p (directive_of t l) (rest_of (line_words t l)) (rows_of t ls) s ≡ yes s') × (dotted t l ≡ false → s ≡ s')
+pub line_yes : (t : List ℕ) (p : Places) (row : Bool) (l : Word) (ls : List Word) (s s' : State) → line_step t p row l ls s ≡ Ok s'
+    → (dotted t l ≡ true → directive_step t p (directive_of t l) (rest_of (line_words t l)) (rows_of t ls) s ≡ Ok s') × (dotted t l ≡ false → s ≡ s')
 unfolding line_step
-line_yes t p row l ls s s' q = (λ e. rw e at q, λ e. yes_same (need-yes row Malformed (yes s) s' (rw e at q)).1)
+line_yes t p row l ls s s' q = (λ e. rw e at q, λ e. yes_same (need-yes row Malformed (Ok s) s' (rw e at q)).1)
 
 -- ---- the text
 
 pub record TextYes (text : List ℕ) (n m o : ℕ) (c : Circuit) : Type 0 where
   pub state : State
-  pub read : read_lines (joined_text text) (places_in n m o) false (lines 0 (joined_text text)) start ≡ yes state
-  pub finished : finish false (joined_text text) state ≡ yes c
+  pub read : read_lines (joined_text text) (places_in n m o) false (lines 0 (joined_text text)) start ≡ Ok state
+  pub finished : finish false (joined_text text) state ≡ Ok c
 
-pub text_yes : (text : List ℕ) (j n m o : ℕ) (c : Circuit) → blif text j n m o ≡ yes c → TextYes text n m o c
+pub text_yes : (text : List ℕ) (j n m o : ℕ) (c : Circuit) → blif text j n m o ≡ Ok c → TextYes text n m o c
 unfolding read_text blif_lines
 text_yes text j n m o c q =
     let k = check_yes (text_fault text j) (and_then (read_lines (joined_text text) (places_in n m o) false (lines 0 (joined_text text)) start) (finish false (joined_text text))) c q in

@@ -1,12 +1,13 @@
 -- 01's examples, the refusals in their order, and areas that are one record short, computed from the definition.
 -- Assumes nothing.
+use Rattle.std.specs.Prelude.{Err, Ok}
 use Prim.Native.Nat.{ℕ}
 use mathlib.Core.Path.{◌≡◌, refl}
 use mathlib.Core.List.{List, [], ◌∷◌, ◌++◌, map}
 use Rattle.laws.specs.Areas.{encodes, capacity}
 use Rattle.laws.specs.Bits.{set_bit}
 use Rattle.laws.specs.Stretches.{stretch, same_bytes}
-use Rattle.circuit.specs.Refusals.{Try, no, yes, number_of}
+use Rattle.circuit.specs.Refusals.{Try, number_of}
 use Rattle.circuit.specs.Records.{encode_node, encode_output}
 use Rattle.circuit.specs.Circuits.{Circuit}
 use Rattle.text.specs.Bytes.{is_ascii}
@@ -23,8 +24,8 @@ use Rattle.blif.specs.Blif.{drivers, input_names, gate, covered, plan, names_lin
 
 -- the words of the nodes, then of the outputs; or the refusal's number alone
 abbrev seen : Try Circuit → List ℕ
-seen (no e) = number_of e ∷ []
-seen (yes c) = encodes encode_node c.nodes ++ encodes encode_output c.outputs
+seen (Err e) = number_of e ∷ []
+seen (Ok c) = encodes encode_node c.nodes ++ encodes encode_output c.outputs
 
 -- a text, and how many nodes, names and outputs there are places for
 record Case : Type 0 where

@@ -1,5 +1,6 @@
 -- Laws of gates: the code's plan is the definition's, and what a gate leaves.
 -- Assumes nothing.
+use Rattle.std.specs.Prelude.{Err, None, Ok, Option, Some, IfOk, OnErr}
 use Prim.Native.Nat.{ℕ, zero, suc, ◌-◌, ◌≤◌, ◌<◌}
 use mathlib.Core.Path.{◌≡◌, refl, ap, ◌∙◌}
 use mathlib.Core.Bool.{Bool, true, false}
@@ -10,83 +11,63 @@ use lib.Dec.{ltb}
 use borrow.Author.Tests.{le-leb, lt-leb, eq-eqb, ne_eqb}
 use Rattle.circuit.specs.declared.refusals.Refusal.{Refusal}
 use Rattle.circuit.specs.declared.refusals.Refusal.TheVariants.{DefinedBefore, NoDriver, WrongCount, BadRow, Malformed}
-use Rattle.circuit.specs.declared.refusals.Checked.{Checked}
-use Rattle.circuit.specs.declared.refusals.Checked.TheVariants.{Sound, Refused}
 use Rattle.circuit.specs.declared.records.BoolNode.{BoolNode}
 use Rattle.circuit.specs.declared.records.BoolWire.{BoolWire}
 use Rattle.circuit.specs.declared.records.Name.TheVariants.{Stretch}
-use Rattle.circuit.specs.Refusals.{Try, no, yes, and_then}
-use Rattle.circuit.specs.Records.{wire_of, wire_word}
+use Rattle.circuit.specs.Refusals.{Try, and_then}
+use Rattle.circuit.specs.Records.{wire_of, wire_word, nodes_of}
 use Rattle.text.specs.declared.words.Word.{Word}
 use Rattle.names.specs.Names.{Entry}
-use Rattle.names.specs.declared.Found.{Found}
-use Rattle.names.specs.declared.Found.TheVariants.{At, Nothing}
+use Rattle.names.specs.Chains.{entries, Table}
 use Rattle.cover.specs.declared.gates.Gate.{Gate}
-use Rattle.cover.specs.declared.rows.Cover.{Cover}
-use Rattle.cover.specs.declared.rows.Cover.TheVariants.{Value, Bad}
 use Rattle.cover.specs.Gates.{noted, no_gate}
 use Rattle.cover.specs.Cover.{last_of, cover}
 use Rattle.cover.proofs.RowLaws.{last-of, count_noted}
 use Rattle.reading.specs.Reading.{Places, places_in, Held, find, unless_defined, driver, add_name, with_names, add_alias, add_named}
-use Rattle.reading.specs.Holding.{outcome}
+use Rattle.reading.specs.declared.records.Counts.{Counts}
+use Rattle.reading.specs.Holding.{outcome, held_of, NodesKept, Kept, KeptForSome}
 use Rattle.blif.specs.declared.gates.Planned.{Planned}
 use Rattle.blif.specs.Blif.{drivers, input_names, cell_node, gate, Plan, covered, plan, names_line}
-use Rattle.blif.specs.Holding.{wire_list, wanted_wire, gate_plan, planned, PlanIs, PlanFits, CellIs}
-
-pub wanted : (t : List ℕ) (w : Word) (b : Bool) (es : List Entry) → b ≡ true → find false t w es ≡ wanted_wire t w b es
-wanted t w b es e = rw e
-
-pub unwanted : (t : List ℕ) (w : Word) (b : Bool) (es : List Entry) → b ≡ false → At 0 ≡ wanted_wire t w b es
-unwanted t w b es e = rw e
-
-abbrev nothing : Refusal → Planned
-nothing r = record { fault = Refused r; inputs = 0; table = 0; first = 0; second = 0; start = 0; len = 0 }
-
-pub refused-plan : (t : List ℕ) (r : Refusal) (p : Planned) (o : Try Plan) → p ≡ nothing r → no r ≡ o → PlanIs t p o
-refused-plan t r p o e q = record {
-  is = rw e q;
-  inside = rw e (omega arith);
-  fits = record { small = rw e (omega arith); alone = λ h. rw e };
-}
+use Rattle.blif.specs.Holding.{wire_list, wanted_wire, gate_plan, planned, PlanFits, CellIs}
 
 -- the ways of `plan_words`
-module _ (t : List ℕ) (g : Gate) (rows : List (List Word)) (es : List Entry) (k : Found) (ek : k ≡ wanted_wire t g.last true es) where
-  pub plan_known : (n : ℕ) → k ≡ At n → no DefinedBefore ≡ gate_plan t g rows es
+module _ (t : List ℕ) (g : Gate) (rows : List (List Word)) (es : List Entry) (k : Option ℕ) (ek : k ≡ wanted_wire t g.last true es) where
+  pub plan_known : (n : ℕ) → k ≡ Some n → Err DefinedBefore ≡ gate_plan t g rows es
   unfolding gate_plan
   plan_known n q = rw (← ek, q)
 
-  module _ (new : k ≡ Nothing) where
-    pub plan_many : 2 < g.count - 1 → no WrongCount ≡ gate_plan t g rows es
+  module _ (new : k ≡ None) where
+    pub plan_many : 2 < g.count - 1 → Err WrongCount ≡ gate_plan t g rows es
     unfolding gate_plan
     plan_many h = rw (← ek, new, lt-leb _ _ h)
 
-    module _ (few : g.count - 1 ≤ 2) (one two : Bool) (e-one : one ≡ ltb 0 (g.count - 1)) (e-two : two ≡ ltb 1 (g.count - 1)) (x : Found) (ex : x ≡ wanted_wire t g.first one es) where
-      pub plan-first : x ≡ Nothing → no NoDriver ≡ gate_plan t g rows es
+    module _ (few : g.count - 1 ≤ 2) (one two : Bool) (e-one : one ≡ ltb 0 (g.count - 1)) (e-two : two ≡ ltb 1 (g.count - 1)) (x : Option ℕ) (ex : x ≡ wanted_wire t g.first one es) where
+      pub plan-first : x ≡ None → Err NoDriver ≡ gate_plan t g rows es
       unfolding gate_plan
       plan-first q = rw (← ek, new, le-leb _ _ few, ← e-one, ← ex, q)
 
-      module _ (a : ℕ) (ea : x ≡ At a) (y : Found) (ey : y ≡ wanted_wire t g.second two es) where
-        pub plan_second : y ≡ Nothing → no NoDriver ≡ gate_plan t g rows es
+      module _ (a : ℕ) (ea : x ≡ Some a) (y : Option ℕ) (ey : y ≡ wanted_wire t g.second two es) where
+        pub plan_second : y ≡ None → Err NoDriver ≡ gate_plan t g rows es
         unfolding gate_plan
         plan_second q = rw (← ek, new, le-leb _ _ few, ← e-one, ← ex, ea, ← e-two, ← ey, q)
 
-        module _ (b : ℕ) (eb : y ≡ At b) (c : Cover) (ec : c ≡ cover t (g.count - 1) rows) where
-          pub plan-rows : c ≡ Bad → no BadRow ≡ gate_plan t g rows es
+        module _ (b : ℕ) (eb : y ≡ Some b) (c : Option ℕ) (ec : c ≡ cover t (g.count - 1) rows) where
+          pub plan-rows : c ≡ None → Err BadRow ≡ gate_plan t g rows es
           unfolding gate_plan covered
           plan-rows q = rw (← ek, new, le-leb _ _ few, ← e-one, ← ex, ea, ← e-two, ← ey, eb, ← ec, q)
 
-          pub plan_made : (table : ℕ) → c ≡ Value table → yes (record { out = g.last; wires = wire_list (g.count - 1) a b; table = table }) ≡ gate_plan t g rows es
+          pub plan_made : (table : ℕ) → c ≡ Some table → Ok (record { out = g.last; wires = wire_list (g.count - 1) a b; table = table }) ≡ gate_plan t g rows es
           unfolding gate_plan covered
           plan_made table q = rw (← ek, new, le-leb _ _ few, ← e-one, ← ex, ea, ← e-two, ← ey, eb, ← ec, q)
 
           pub plan_alone : g.count - 1 ≡ 1 → b ≡ 0
           plan_alone h =
               let q : two ≡ false = e-two ∙ rw h in
-              let r : y ≡ At 0 = ey ∙ rw q in
+              let r : y ≡ Some 0 = ey ∙ rw q in
               cc
 
 -- the code's plan is the definition's
-pub plan-none : (t : List ℕ) (ws : List Word) (rows : List (List Word)) (es : List Entry) (g : Gate) → g ≡ noted no_gate ws → g.count ≡ 0 → no Malformed ≡ plan t ws rows es
+pub plan-none : (t : List ℕ) (ws : List Word) (rows : List (List Word)) (es : List Entry) (g : Gate) → g ≡ noted no_gate ws → g.count ≡ 0 → Err Malformed ≡ plan t ws rows es
 unfolding plan
 plan-none t [] rows es g e z = refl
 plan-none t (w ∷ ws) rows es g e z = absurd (omega (arith, count_noted no_gate (w ∷ ws), ap (λ (x : Gate). x.count) e))
@@ -112,19 +93,19 @@ unfolding plan gate_plan noted last_of input_names drivers
 plan_same t w [] rows es = refl
 plan_same t w (x ∷ []) rows es = ap (λ (o : Try Plan). unless_defined (find false t x es) o) (go (find false t w es))
   where
-    go : (f : Found)
+    go : (f : Option ℕ)
         → and_then (driver f) (λ a. covered x (a ∷ []) (cover t 1 rows))
-        ≡ and_then (and_then (driver f) (λ a. and_then (yes []) (λ xs. yes (a ∷ xs)))) (λ xs. covered x xs (cover t 1 rows))
-    go (At k) = refl
-    go Nothing = refl
+        ≡ and_then (and_then (driver f) (λ a. and_then (Ok []) (λ xs. Ok (a ∷ xs)))) (λ xs. covered x xs (cover t 1 rows))
+    go (Some k) = refl
+    go None = refl
 plan_same t w (x ∷ y ∷ []) rows es = ap (λ (o : Try Plan). unless_defined (find false t y es) o) (go (find false t w es) (find false t x es))
   where
-    go : (f h : Found)
+    go : (f h : Option ℕ)
         → and_then (driver f) (λ a. and_then (driver h) (λ b. covered y (a ∷ b ∷ []) (cover t 2 rows)))
-        ≡ and_then (and_then (driver f) (λ a. and_then (and_then (driver h) (λ b. and_then (yes []) (λ xs. yes (b ∷ xs)))) (λ xs. yes (a ∷ xs)))) (λ xs. covered y xs (cover t 2 rows))
-    go (At k) (At m) = refl
-    go (At k) Nothing = refl
-    go Nothing h = refl
+        ≡ and_then (and_then (driver f) (λ a. and_then (and_then (driver h) (λ b. and_then (Ok []) (λ xs. Ok (b ∷ xs)))) (λ xs. Ok (a ∷ xs)))) (λ xs. covered y xs (cover t 2 rows))
+    go (Some k) (Some m) = refl
+    go (Some k) None = refl
+    go None h = refl
 plan_same t w (x ∷ y ∷ z ∷ zs) rows es = many_words t w x y z zs rows es
 
 pub plan_of : (t : List ℕ) (ws : List Word) (rows : List (List Word)) (es : List Entry) (g : Gate) → g ≡ noted no_gate ws → (g.count ≡ 0 → ⊥) → gate_plan t g rows es ≡ plan t ws rows es
@@ -151,7 +132,7 @@ cell-node : (p : Planned) (n : BoolNode) → PlanFits p → (p.inputs ≡ 0 → 
 cell-node p n f nz h = go p.inputs refl
   where
     made : (k : ℕ) (a b : ℕ) → p.inputs ≡ k → wire_of p.first ≡ wire_of a → wire_of p.second ≡ wire_of b
-        → n ≡ record { kind = 2; count = k; table = p.table; name = Stretch p.start p.len; first = wire_of a; second = wire_of b }
+        → n ≡ record { kind = 2; count = k; table = p.table; name = Stretch p.out.start p.out.len; first = wire_of a; second = wire_of b }
     made k a b e q r = λ i. record {
       kind = h.kind_is i;
       count = (h.count_is ∙ e) i;
@@ -167,27 +148,42 @@ cell-node p n f nz h = go p.inputs refl
     go (suc (suc zero)) e = made 2 p.first p.second e refl refl
     go (suc (suc (suc k))) e = absurd (omega (arith, f.small))
 
-with-names : (ns : List BoolNode) (f : Checked) (es : List Entry) → outcome f (record { nodes = ns; names = es }) ≡ with_names ns (outcome f es)
-with-names ns Sound es = refl
-with-names ns (Refused e) es = refl
+-- a name for a wire that is there, as `add_alias` answers it
+module _ (r : Try Counts) (N M : List ℕ) (n : ℕ) (same : IfOk r (λ c. c.nodes ≡ n)) where
+  pub alias_kept : (t heads : List ℕ) → NodesKept N n → IfOk r (λ c. Table t heads M c.names) → IfOk r (λ c. Kept t heads N M c)
+  alias_kept t heads k table = go r same table
+    where
+      go : (x : Try Counts) → IfOk x (λ c. c.nodes ≡ n) → IfOk x (λ c. Table t heads M c.names) → IfOk x (λ c. Kept t heads N M c)
+      go (Ok c) e h = record { table = h; nodes = rw e k }
+      go (Err z) e h = tt
 
-module _ (p : Planned) (ps : Places) (ns : List BoolNode) (es es' : List Entry) (k : Checked) where
-  alias : (wire : ℕ) → outcome k es' ≡ add_name ps.names (record { start = p.start; len = p.len }) wire es
-      → outcome k (record { nodes = ns; names = es' }) ≡ with_names ns (add_name ps.names (record { start = p.start; len = p.len }) wire es)
-  alias wire e = with-names ns k es' ∙ ap (with_names ns) e
+  pub alias_refused : (t heads : List ℕ) (m : ℕ) → NodesKept N n → OnErr r (Table t heads M m) → OnErr r (KeptForSome t heads N M)
+  alias_refused t heads m k table = go r table
+    where
+      go : (x : Try Counts) → OnErr x (Table t heads M m) → OnErr x (KeptForSome t heads N M)
+      go (Ok c) h = tt
+      go (Err z) h = (record { nodes = n; names = m }, record { table = h; nodes = k })
 
-  pub put_constant : p.inputs ≡ 0 → outcome k es' ≡ add_name ps.names (record { start = p.start; len = p.len }) p.table es
-      → outcome k (record { nodes = ns; names = es' }) ≡ gate ps (planned p).out (planned p).wires (planned p).table (record { nodes = ns; names = es })
-  unfolding gate add_alias
-  put_constant z e = rw z (alias p.table e)
+  alias : (o : Try (List Entry)) → outcome (λ (c : Counts). entries M c.names) r ≡ o → outcome (λ (c : Counts). held_of N M c) r ≡ with_names (nodes_of N n) o
+  alias o q = go r same q
+    where
+      go : (x : Try Counts) → IfOk x (λ c. c.nodes ≡ n) → outcome (λ (c : Counts). entries M c.names) x ≡ o → outcome (λ (c : Counts). held_of N M c) x ≡ with_names (nodes_of N n) o
+      go (Ok c) e q = rw (← q, e)
+      go (Err z) e q = rw (← q)
 
-  pub put_alias : p.inputs ≡ 1 → p.table ≡ 2 → outcome k es' ≡ add_name ps.names (record { start = p.start; len = p.len }) p.first es
-      → outcome k (record { nodes = ns; names = es' }) ≡ gate ps (planned p).out (planned p).wires (planned p).table (record { nodes = ns; names = es })
-  unfolding gate add_alias
-  put_alias z q e = rw (z, eq-eqb _ _ q) (alias p.first e)
+  module _ (p : Planned) (ps : Places) (es : List Entry) where
+    pub put_constant : p.inputs ≡ 0 → outcome (λ (c : Counts). entries M c.names) r ≡ add_name ps.names p.out p.table es
+        → outcome (λ (c : Counts). held_of N M c) r ≡ gate ps (planned p).out (planned p).wires (planned p).table (record { nodes = nodes_of N n; names = es })
+    unfolding gate add_alias
+    put_constant z e = rw z (alias _ e)
+
+    pub put_alias : p.inputs ≡ 1 → p.table ≡ 2 → outcome (λ (c : Counts). entries M c.names) r ≡ add_name ps.names p.out p.first es
+        → outcome (λ (c : Counts). held_of N M c) r ≡ gate ps (planned p).out (planned p).wires (planned p).table (record { nodes = nodes_of N n; names = es })
+    unfolding gate add_alias
+    put_alias z q e = rw (z, eq-eqb _ _ q) (alias _ e)
 
 pub put-cell : (p : Planned) (n : BoolNode) (ps : Places) (h : Held) → PlanFits p → CellIs p n → (p.inputs ≡ 0 → ⊥) → (p.inputs ≡ 1 → p.table ≡ 2 → ⊥)
-    → add_named ps (record { start = p.start; len = p.len }) n h ≡ gate ps (planned p).out (planned p).wires (planned p).table h
+    → add_named ps p.out n h ≡ gate ps (planned p).out (planned p).wires (planned p).table h
 put-cell p n ps h f c nz na = rw (cell-node p n f nz c) (go p.inputs refl)
   where
     go : (k : ℕ) → p.inputs ≡ k → add_named ps (planned p).out (cell_node (planned p).out (wire_list k p.first p.second) p.table) h ≡ gate ps (planned p).out (wire_list k p.first p.second) p.table h
@@ -195,14 +191,14 @@ put-cell p n ps h f c nz na = rw (cell-node p n f nz c) (go p.inputs refl)
     go (suc zero) e = cell-one ps (planned p).out p.first p.table h (na e)
     go (suc (suc k)) e = cell_two ps (planned p).out p.first p.second p.table h
 
-module _ (t : List ℕ) (ps : Places) (ws : List Word) (rows : List (List Word)) (h : Held) (p : Planned) (e : outcome p.fault (planned p) ≡ plan t ws rows h.names) where
-  pub names-stop : (r : Refusal) → p.fault ≡ Refused r → no r ≡ names_line t ps ws rows h
+module _ (t : List ℕ) (ps : Places) (ws : List Word) (rows : List (List Word)) (h : Held) where
+  pub names-stop : (r : Refusal) → Err r ≡ plan t ws rows h.names → Err r ≡ names_line t ps ws rows h
   unfolding names_line
-  names-stop r q = rw (← e, q)
+  names-stop r e = rw (← e)
 
-  pub names_go : p.fault ≡ Sound → gate ps (planned p).out (planned p).wires (planned p).table h ≡ names_line t ps ws rows h
+  pub names_go : (p : Planned) → Ok (planned p) ≡ plan t ws rows h.names → gate ps (planned p).out (planned p).wires (planned p).table h ≡ names_line t ps ws rows h
   unfolding names_line
-  names_go z = rw (← e, z)
+  names_go p e = rw (← e)
 
 -- nodes and names alone are looked at
 gate-places : (n m o : ℕ) (out : Word) (xs : List ℕ) (table : ℕ) (h : Held) → gate (places_in n m 0) out xs table h ≡ gate (places_in n m o) out xs table h
@@ -216,5 +212,5 @@ unfolding names_line
 names-places t n m o ws rows h = go (plan t ws rows h.names)
   where
     go : (r : Try Plan) → and_then r (λ g. gate (places_in n m 0) g.out g.wires g.table h) ≡ and_then r (λ g. gate (places_in n m o) g.out g.wires g.table h)
-    go (no e) = refl
-    go (yes g) = gate-places n m o g.out g.wires g.table h
+    go (Err e) = refl
+    go (Ok g) = gate-places n m o g.out g.wires g.table h

@@ -1,5 +1,6 @@
 -- A circuit that was read passes the circuit check.
 -- Assumes nothing.
+use Rattle.std.specs.Prelude.{Ok}
 use Prim.Native.Nat.{ℕ, suc, ◌+◌, ◌^◌, ◌≤◌, ◌<◌}
 use mathlib.Core.Path.{◌≡◌, refl, sym, ap, subst}
 use mathlib.Core.Bool.{Bool, true, false, cond}
@@ -8,8 +9,6 @@ use native.Mathlib.Omega.{arith}
 use lib.ListN.{length}
 use lib.Dec.{eqb}
 use Rattle.laws.specs.Stretches.{All}
-use Rattle.circuit.specs.declared.refusals.Checked.TheVariants.{Sound}
-use Rattle.circuit.specs.Refusals.{yes}
 use Rattle.circuit.specs.Check.{check_circuit}
 use Rattle.circuit.specs.Circuits.{Circuit}
 use Rattle.circuit.proofs.Tries.{no_yes, yes_same, then_yes}
@@ -33,7 +32,7 @@ record Driven (m : ℕ) (ins : List Word) (xs : List ℕ) : Type 0 where
   count : length xs ≡ length ins
   below : All (λ x. x < m + 2) xs
 
-drivers_below : (t : List ℕ) (h : Held) → HeldSound h → (ins : List Word) (xs : List ℕ) → drivers t h.names ins ≡ yes xs → Driven (length h.nodes) ins xs
+drivers_below : (t : List ℕ) (h : Held) → HeldSound h → (ins : List Word) (xs : List ℕ) → drivers t h.names ins ≡ Ok xs → Driven (length h.nodes) ins xs
 unfolding drivers
 drivers_below t h s [] xs q = subst (λ (l : List ℕ). Driven (length h.nodes) [] l) (yes_same q) (record { count = refl; below = tt })
 drivers_below t h s (w ∷ ws) xs q =
@@ -44,12 +43,12 @@ drivers_below t h s (w ∷ ws) xs q =
     (record { count = ap suc d.count; below = (driver_below (length h.nodes) false t w h.names x.0 s.names x.1, d.below) })
 
 gate-sound : (p : Places) (out : Word) (xs : List ℕ) (table : ℕ) (h h' : Held) → HeldSound h → All (λ x. x < length h.nodes + 2) xs → length xs ≤ 2 → table < 2 ^ 2 ^ length xs
-    → gate p out xs table h ≡ yes h' → HeldSound h'
+    → gate p out xs table h ≡ Ok h' → HeldSound h'
 unfolding gate
 gate-sound p out [] table h h' s below few fits q = alias_sound p out table h h' (omega arith) s q
 gate-sound p out (x ∷ []) table h h' s below few fits q = go (eqb table 2) q
   where
-    go : (b : Bool) → cond b (add_alias p out x h) (add_named p out (cell_node out (x ∷ []) table) h) ≡ yes h' → HeldSound h'
+    go : (b : Bool) → cond b (add_alias p out x h) (add_named p out (cell_node out (x ∷ []) table) h) ≡ Ok h' → HeldSound h'
     go true r = alias_sound p out x h h' below.0 s r
     go false r =
         named-sound p out (cell_node out (x ∷ []) table) h h'
@@ -59,7 +58,7 @@ gate-sound p out (x ∷ y ∷ []) table h h' s below few fits q =
     (two_sits (length h.nodes) (cell_node out (x ∷ y ∷ []) table) refl (word_below (length h.nodes) x below.0) refl fits (word_below (length h.nodes) y below.1.0)) s q
 gate-sound p out (x ∷ y ∷ z ∷ zs) table h h' s below few fits q = absurd (omega arith)
 
-names-sound : (t : List ℕ) (p : Places) (ws : List Word) (rows : List (List Word)) (h h' : Held) → HeldSound h → names_line t p ws rows h ≡ yes h' → HeldSound h'
+names-sound : (t : List ℕ) (p : Places) (ws : List Word) (rows : List (List Word)) (h h' : Held) → HeldSound h → names_line t p ws rows h ≡ Ok h' → HeldSound h'
 names-sound t p [] rows h h' s q = absurd (names-none t p rows h h' q)
 names-sound t p (w ∷ ws) rows h h' s q =
     let y = names-yes t p w ws rows h h' q in
@@ -69,7 +68,7 @@ names-sound t p (w ∷ ws) rows h h' s q =
 
 -- ---- lines
 
-directive-sound : (t : List ℕ) (p : Places) (d : Directive) (ws : List Word) (rows : List (List Word)) (s s' : State) → HeldSound s.held → directive_step t p d ws rows s ≡ yes s' → HeldSound s'.held
+directive-sound : (t : List ℕ) (p : Places) (d : Directive) (ws : List Word) (rows : List (List Word)) (s s' : State) → HeldSound s.held → directive_step t p d ws rows s ≡ Ok s' → HeldSound s'.held
 unfolding directive_step
 directive-sound t p Ignored ws rows s s' k q = subst (λ (x : State). HeldSound x.held) (yes_same q) k
 directive-sound t p Inputs ws rows s s' k q =
@@ -78,19 +77,19 @@ directive-sound t p Outputs ws rows s s' k q = subst HeldSound (sym (outputs-yes
 directive-sound t p Names ws rows s s' k q = names-sound t p ws rows s.held s'.held k (held_yes s.outputs (names_line t p ws rows s.held) s' q).0
 directive-sound t p Other ws rows s s' k q = absurd (no_yes q)
 
-lines-sound : (t : List ℕ) (p : Places) (row : Bool) (ls : List Word) (s s' : State) → HeldSound s.held → read_lines t p row ls s ≡ yes s' → HeldSound s'.held
+lines-sound : (t : List ℕ) (p : Places) (row : Bool) (ls : List Word) (s s' : State) → HeldSound s.held → read_lines t p row ls s ≡ Ok s' → HeldSound s'.held
 unfolding read_lines
 lines-sound t p row [] s s' k q = subst (λ (x : State). HeldSound x.held) (yes_same q) k
 lines-sound t p row (l ∷ ls) s s' k q =
     let r = then_yes (line_step t p row l ls s) (read_lines t p (row_next t l) ls) s' q in
     lines-sound t p (row_next t l) ls r.0 s' (step r.0 (line_yes t p row l ls s r.0 r.1) (dotted t l) refl) r.2
   where
-    step : (mid : State) → (dotted t l ≡ true → directive_step t p (directive_of t l) (rest_of (line_words t l)) (rows_of t ls) s ≡ yes mid) × (dotted t l ≡ false → s ≡ mid)
+    step : (mid : State) → (dotted t l ≡ true → directive_step t p (directive_of t l) (rest_of (line_words t l)) (rows_of t ls) s ≡ Ok mid) × (dotted t l ≡ false → s ≡ mid)
         → (b : Bool) → dotted t l ≡ b → HeldSound mid.held
     step mid z true e = directive-sound t p (directive_of t l) (rest_of (line_words t l)) (rows_of t ls) s mid k (z.0 e)
     step mid z false e = subst (λ (x : State). HeldSound x.held) (z.1 e) k
 
-pub blif-sound : (text : List ℕ) (j n m o : ℕ) (c : Circuit) → blif text j n m o ≡ yes c → check_circuit c.nodes (wires_out c) ≡ Sound
+pub blif-sound : (text : List ℕ) (j n m o : ℕ) (c : Circuit) → blif text j n m o ≡ Ok c → check_circuit c.nodes (wires_out c) ≡ Ok tt
 blif-sound text j n m o c q =
     let y = text_yes text j n m o c q in
     finish-sound false (joined_text text) y.state c

@@ -1,17 +1,15 @@
 -- The BLIF reader: a joined text's lines, one after the other, with the circuit, the names and the output words so far.
 -- Assumes nothing.
-use Rattle.std.specs.Prelude.{ℕ, Bool, true, false, cond, List, [], ◌∷◌, length, get_or, eqb, leb}
+use Rattle.std.specs.Prelude.{ℕ, Bool, true, false, cond, List, [], ◌∷◌, length, get_or, eqb, leb, Err, None, Ok, Option, Some}
 use Rattle.circuit.specs.declared.refusals.Refusal.TheVariants.{WrongCount, BadRow, Unknown, Malformed}
 use Rattle.circuit.specs.declared.records.BoolNode.{BoolNode}
 use Rattle.circuit.specs.declared.records.Name.TheVariants.{Stretch}
-use Rattle.circuit.specs.Refusals.{Try, no, yes, and_then, need}
+use Rattle.circuit.specs.Refusals.{Try, and_then, need}
 use Rattle.circuit.specs.Records.{wire_of}
 use Rattle.circuit.specs.Circuits.{Circuit}
 use Rattle.text.specs.Lines.{lines, line_words}
 use Rattle.text.specs.declared.words.Word.{Word}
 use Rattle.names.specs.Names.{Entry}
-use Rattle.cover.specs.declared.rows.Cover.{Cover}
-use Rattle.cover.specs.declared.rows.Cover.TheVariants.{Value, Bad}
 use Rattle.cover.specs.declared.directives.Directive.{Directive}
 use Rattle.cover.specs.declared.directives.Directive.TheVariants.{Ignored, Inputs, Outputs, Names, Other}
 use Rattle.cover.specs.Cover.{last_of, cover}
@@ -23,8 +21,8 @@ use Rattle.reading.specs.Areas.{read_text}
 
 -- "5": the wires of the input names
 unfoldable pub drivers : List ℕ → List Entry → List Word → Try (List ℕ)
-drivers t es [] = yes []
-drivers t es (w ∷ ws) = and_then (driver (find false t w es)) (λ x. and_then (drivers t es ws) (λ xs. yes (x ∷ xs)))
+drivers t es [] = Ok []
+drivers t es (w ∷ ws) = and_then (driver (find false t w es)) (λ x. and_then (drivers t es ws) (λ xs. Ok (x ∷ xs)))
 
 -- the words of a `.names` line but the last, which is its output
 unfoldable pub input_names : Word → List Word → List Word
@@ -57,13 +55,13 @@ pub record Plan : Type 0 where
   pub table : ℕ
 
 -- "then its rows ..: 7"
-unfoldable pub covered : Word → List ℕ → Cover → Try Plan
-covered out xs Bad = no BadRow
-covered out xs (Value table) = yes (record { out = out; wires = xs; table = table })
+unfoldable pub covered : Word → List ℕ → Option ℕ → Try Plan
+covered out xs None = Err BadRow
+covered out xs (Some table) = Ok (record { out = out; wires = xs; table = table })
 
 -- "`.names`: no output word 9; then 4, more than two inputs 6, 5, then its rows up to the next line with `.` first: 7."
 unfoldable pub plan : List ℕ → List Word → List (List Word) → List Entry → Try Plan
-plan t [] rows es = no Malformed
+plan t [] rows es = Err Malformed
 plan t (w ∷ ws) rows es =
     unless_defined (find false t (last_of w ws) es)
     (need (leb (length (input_names w ws)) 2) WrongCount
@@ -75,31 +73,31 @@ names_line t p ws rows h = and_then (plan t ws rows h.names) (λ g. gate p g.out
 -- ---- lines
 
 abbrev pub with_held : List Word → Try Held → Try State
-with_held os (no e) = no e
-with_held os (yes h) = yes (record { held = h; outputs = os })
+with_held os (Err e) = Err e
+with_held os (Ok h) = Ok (record { held = h; outputs = os })
 
 abbrev pub with_outputs : Held → Try (List Word) → Try State
-with_outputs h (no e) = no e
-with_outputs h (yes os) = yes (record { held = h; outputs = os })
+with_outputs h (Err e) = Err e
+with_outputs h (Ok os) = Ok (record { held = h; outputs = os })
 
 -- "`.model`, `.end`: ignored. `.inputs`: per word 4, else an input node. `.outputs`: collected, repeats allowed. .. Other words with `.` first 8"
 unfoldable pub directive_step : List ℕ → Places → Directive → List Word → List (List Word) → State → Try State
-directive_step t p Ignored ws rows s = yes s
+directive_step t p Ignored ws rows s = Ok s
 directive_step t p Inputs ws rows s = with_held s.outputs (each (add_input false t p) ws s.held)
 directive_step t p Outputs ws rows s = with_outputs s.held (each (add_output p.outputs) ws s.outputs)
 directive_step t p Names ws rows s = with_held s.outputs (names_line t p ws rows s.held)
-directive_step t p Other ws rows s = no Unknown
+directive_step t p Other ws rows s = Err Unknown
 
 -- a line, with those after it, where `row` says whether a row may stand: "Other words with `.` first 8; other lines 9."
 unfoldable pub line_step : List ℕ → Places → Bool → Word → List Word → State → Try State
-line_step t p row l ls s = cond (dotted t l) (directive_step t p (directive_of t l) (rest_of (line_words t l)) (rows_of t ls) s) (need row Malformed (yes s))
+line_step t p row l ls s = cond (dotted t l) (directive_step t p (directive_of t l) (rest_of (line_words t l)) (rows_of t ls) s) (need row Malformed (Ok s))
 
 -- rows go on "up to the next line with `.` first"
 unfoldable pub row_next : List ℕ → Word → Bool
 row_next t l = cond (dotted t l) (rows_after (directive_of t l)) true
 
 unfoldable pub read_lines : List ℕ → Places → Bool → List Word → State → Try State
-read_lines t p row [] s = yes s
+read_lines t p row [] s = Ok s
 read_lines t p row (l ∷ ls) s = and_then (line_step t p row l ls s) (read_lines t p (row_next t l) ls)
 
 -- the lines of a joined text; "At the end outputs: 5, then 10."

@@ -1,25 +1,24 @@
 // The lines of a joined text.
-ghost use Rattle.std.specs.Prelude.{◌≡◌, false, ◌+◌, ◌-◌, ◌≤◌, ◌<◌, length};
+ghost use Rattle.std.specs.Prelude.{◌≡◌, false, ◌+◌, ◌-◌, ◌≤◌, ◌<◌, length, IfOk, OnErr};
 ghost use Rattle.laws.specs.Stretches.{stretch};
 ghost use Rattle.text.specs.Words.{words};
 ghost use Rattle.text.specs.Lines.{lines};
 ghost use Rattle.cover.specs.Directives.{rows_of, rows_after};
 ghost use Rattle.reading.specs.Reading.{places_in, start};
-ghost use Rattle.reading.specs.Holding.{outcome, state_of, Kept, WordsKept};
+ghost use Rattle.reading.specs.Holding.{outcome, state_of, Kept, KeptForSome, WordsKept, WordsKeptForSome};
 ghost use Rattle.blif.specs.Blif.{directive_step, line_step, row_next, read_lines};
 
 use crate::gates::names_line;
 use crate::words::{input_words, output_words};
-use circuit::refusals::{Checked, Refusal};
+use circuit::refusals::Refusal;
 use cover::directives::{Directive, directive_of};
 use reading::records::Counts;
 use text::bytes::find_far_byte;
 use text::words::next_word;
 
-// A fault, or none, what has been read, and whether a row may stand next.
+// What has been read, and whether a row may stand next.
 #[derive(Clone, Copy)]
 pub struct Reading {
-    pub fault: Checked,
     pub counts: Counts,
     pub outputs: usize,
     pub row: bool,
@@ -33,66 +32,59 @@ pub fn read_directive(
     end: usize,
     next: usize,
     size: usize,
-    counts: Counts,
-    n: usize,
+    read: Reading,
     heads: &mut [usize; 256],
     nodes: &mut [usize],
     names: &mut [usize],
     outputs: &mut [usize],
-) -> Reading
-    requires kept { Kept text.now heads.old nodes.old names.old counts }
-    requires words_kept { WordsKept text.now outputs.old n }
+) -> Result<Reading, Refusal>
+    requires kept { Kept text.now heads.old nodes.old names.old read.counts }
+    requires words_kept { WordsKept text.now outputs.old read.outputs }
     requires from_le_end { (from ≤ end) × (end ≤ length text.now) × (size ≤ length text.now) }
-    ensures kept_2 { Kept text.now heads.new nodes.new names.new result.counts }
-    ensures words_kept_2 { WordsKept text.now outputs.new result.outputs }
-    ensures outputs_after { outcome result.fault (state_of nodes.new names.new outputs.new result.counts result.outputs) ≡ directive_step text.now (places_in (length nodes.old) (length names.old) (length outputs.old)) directive (words from (stretch text.now from (end - from))) (rows_of text.now (lines next (stretch text.now next (size - next)))) (state_of nodes.old names.old outputs.old counts n) }
-    ensures row_value { result.row ≡ rows_after directive }
+    ensures kept_2 { IfOk result (λ r. Kept text.now heads.new nodes.new names.new r.counts) }
+    ensures kept_refused { OnErr result (KeptForSome text.now heads.new nodes.new names.new) }
+    ensures words_kept_2 { IfOk result (λ r. WordsKept text.now outputs.new r.outputs) }
+    ensures words_refused { OnErr result (WordsKeptForSome text.now outputs.new) }
+    ensures outputs_after { outcome (λ r. state_of nodes.new names.new outputs.new r.counts r.outputs) result ≡ directive_step text.now (places_in (length nodes.old) (length names.old) (length outputs.old)) directive (words from (stretch text.now from (end - from))) (rows_of text.now (lines next (stretch text.now next (size - next)))) (state_of nodes.old names.old outputs.old read.counts read.outputs) }
+    ensures row_value { IfOk result (λ r. r.row ≡ rows_after directive) }
 {
     match directive {
-        Directive::Ignored => Reading {
-            fault: Checked::Sound,
-            counts,
-            outputs: n,
-            row: false,
-        },
+        Directive::Ignored => Ok(Reading { row: false, ..read }),
         Directive::Inputs => {
-            let s = input_words(text, from, end, counts, heads, nodes, names);
-            let f = s.fault;
-            let h = s.counts;
-            Reading {
-                fault: f,
-                counts: h,
-                outputs: n,
+            let counts = input_words(text, from, end, read.counts, heads, nodes, names)?;
+            Ok(Reading {
+                counts,
                 row: false,
-            }
+                ..read
+            })
         }
         Directive::Outputs => {
-            let s = output_words(text, from, end, n, outputs);
-            let f = s.fault;
-            Reading {
-                fault: f,
-                counts,
-                outputs: s.count,
+            let outputs = output_words(text, from, end, read.outputs, outputs)?;
+            Ok(Reading {
+                outputs,
                 row: false,
-            }
+                ..read
+            })
         }
         Directive::Names => {
-            let s = names_line(text, from, end, next, size, counts, heads, nodes, names);
-            let f = s.fault;
-            let h = s.counts;
-            Reading {
-                fault: f,
-                counts: h,
-                outputs: n,
+            let counts = names_line(
+                text,
+                from,
+                end,
+                next,
+                size,
+                read.counts,
+                heads,
+                nodes,
+                names,
+            )?;
+            Ok(Reading {
+                counts,
                 row: true,
-            }
+                ..read
+            })
         }
-        Directive::Other => Reading {
-            fault: Checked::Refused(Refusal::Unknown),
-            counts,
-            outputs: n,
-            row: false,
-        },
+        Directive::Other => Err(Refusal::Unknown),
     }
 }
 
@@ -102,47 +94,45 @@ pub fn read_line(
     at: usize,
     end: usize,
     size: usize,
-    row: bool,
-    counts: Counts,
-    n: usize,
+    read: Reading,
     heads: &mut [usize; 256],
     nodes: &mut [usize],
     names: &mut [usize],
     outputs: &mut [usize],
-) -> Reading
-    requires kept { Kept text.now heads.old nodes.old names.old counts }
-    requires words_kept { WordsKept text.now outputs.old n }
+) -> Result<Reading, Refusal>
+    requires kept { Kept text.now heads.old nodes.old names.old read.counts }
+    requires words_kept { WordsKept text.now outputs.old read.outputs }
     requires at_le_end { (at ≤ end) × (end ≤ length text.now) × (at < length text.now) × (size ≤ length text.now) }
-    ensures kept_2 { Kept text.now heads.new nodes.new names.new result.counts }
-    ensures words_kept_2 { WordsKept text.now outputs.new result.outputs }
-    ensures outputs_after { outcome result.fault (state_of nodes.new names.new outputs.new result.counts result.outputs) ≡ line_step text.now (places_in (length nodes.old) (length names.old) (length outputs.old)) row (record { start = at; len = end - at }) (lines (end + 1) (stretch text.now (end + 1) (size - (end + 1)))) (state_of nodes.old names.old outputs.old counts n) }
-    ensures row_value { result.row ≡ row_next text.now (record { start = at; len = end - at }) }
+    ensures kept_2 { IfOk result (λ r. Kept text.now heads.new nodes.new names.new r.counts) }
+    ensures kept_refused { OnErr result (KeptForSome text.now heads.new nodes.new names.new) }
+    ensures words_kept_2 { IfOk result (λ r. WordsKept text.now outputs.new r.outputs) }
+    ensures words_refused { OnErr result (WordsKeptForSome text.now outputs.new) }
+    ensures outputs_after { outcome (λ r. state_of nodes.new names.new outputs.new r.counts r.outputs) result ≡ line_step text.now (places_in (length nodes.old) (length names.old) (length outputs.old)) read.row (record { start = at; len = end - at }) (lines (end + 1) (stretch text.now (end + 1) (size - (end + 1)))) (state_of nodes.old names.old outputs.old read.counts read.outputs) }
+    ensures row_value { IfOk result (λ r. r.row ≡ row_next text.now (record { start = at; len = end - at })) }
 {
-    if text[at] != 46 {
-        if row {
-            return Reading {
-                fault: Checked::Sound,
-                counts,
-                outputs: n,
-                row: true,
-            };
-        }
-        return Reading {
-            fault: Checked::Refused(Refusal::Malformed),
-            counts,
-            outputs: n,
-            row: true,
-        };
+    if text[at] == b'.' {
+        let word = next_word(text, at, end);
+        let directive = directive_of(text, word);
+        let from = word.start + word.len;
+        return read_directive(
+            text,
+            directive,
+            from,
+            end,
+            end + 1,
+            size,
+            read,
+            heads,
+            nodes,
+            names,
+            outputs,
+        );
     }
-    let w = next_word(text, at, end);
-    let start = w.start;
-    let len = w.len;
-    let directive = directive_of(text, start, len);
-    let from = start + len;
-    let next = end + 1;
-    read_directive(
-        text, directive, from, end, next, size, counts, n, heads, nodes, names, outputs,
-    )
+    if read.row {
+        Ok(read)
+    } else {
+        Err(Refusal::Malformed)
+    }
 }
 
 // Every line.
@@ -152,36 +142,27 @@ pub fn read_lines(
     nodes: &mut [usize],
     names: &mut [usize],
     outputs: &mut [usize],
-) -> Reading
+) -> Result<Reading, Refusal>
     requires kept { Kept text.now heads.old nodes.old names.old (record { nodes = 0; names = 0 }) }
     requires words_kept { WordsKept text.now outputs.old 0 }
-    ensures kept_2 { Kept text.now heads.new nodes.new names.new result.counts }
-    ensures words_kept_2 { WordsKept text.now outputs.new result.outputs }
-    ensures outputs_after { outcome result.fault (state_of nodes.new names.new outputs.new result.counts result.outputs) ≡ read_lines text.now (places_in (length nodes.old) (length names.old) (length outputs.old)) false (lines 0 text.now) start }
+    ensures kept_2 { IfOk result (λ r. Kept text.now heads.new nodes.new names.new r.counts) }
+    ensures kept_refused { OnErr result (KeptForSome text.now heads.new nodes.new names.new) }
+    ensures words_kept_2 { IfOk result (λ r. WordsKept text.now outputs.new r.outputs) }
+    ensures words_refused { OnErr result (WordsKeptForSome text.now outputs.new) }
+    ensures outputs_after { outcome (λ r. state_of nodes.new names.new outputs.new r.counts r.outputs) result ≡ read_lines text.now (places_in (length nodes.old) (length names.old) (length outputs.old)) false (lines 0 text.now) start }
 {
     let size = text.len();
     let mut at = 0;
-    let mut row = false;
-    let mut counts = Counts { nodes: 0, names: 0 };
-    let mut n = 0;
+    let mut read = Reading {
+        counts: Counts { nodes: 0, names: 0 },
+        outputs: 0,
+        row: false,
+    };
+    // The next line's place depends on where this one ends.
     while at < size {
-        let end = find_far_byte(text, 10, at, size);
-        let r = read_line(
-            text, at, end, size, row, counts, n, heads, nodes, names, outputs,
-        );
-        let fault = r.fault;
-        if let Checked::Refused(_) = fault {
-            return r;
-        }
-        counts = r.counts;
-        n = r.outputs;
-        row = r.row;
+        let end = find_far_byte(text, b'\n', at, size);
+        read = read_line(text, at, end, size, read, heads, nodes, names, outputs)?;
         at = end + 1;
     }
-    Reading {
-        fault: Checked::Sound,
-        counts,
-        outputs: n,
-        row,
-    }
+    Ok(read)
 }

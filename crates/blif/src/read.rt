@@ -1,62 +1,42 @@
 // The reader: a text into a circuit, or its refusal.
-ghost use Rattle.std.specs.Prelude.{◌≡◌, ℕ, ◌≤◌, ◌<◌, List, length, replicate};
-ghost use Rattle.text.specs.Joining.{joined_text};
-ghost use Rattle.reading.specs.Reading.{places_in};
-ghost use Rattle.reading.specs.Holding.{Ends};
-ghost use Rattle.reading.specs.Areas.{JoinedIn, Leaves};
+ghost use Rattle.std.specs.Prelude.{length};
+ghost use Rattle.reading.specs.Areas.{Leaves};
 ghost use Rattle.blif.specs.Blif.{blif_lines, blif};
 
 use crate::lines::read_lines;
-use circuit::refusals::{Checked, Read};
-use reading::areas::{Prepared, conclude, prepare, refuse};
-use reading::outputs::{Ended, resolve_outputs};
+use circuit::records::Sizes;
+use circuit::refusals::Refusal;
+use names::NameTable;
+use reading::format::{Format, parse};
+use reading::outputs::resolve_outputs;
 
-// The joined text into areas of zeros.
-pub fn read_joined(
-    text: &[u8],
-    nodes: &mut [usize],
-    names: &mut [usize],
-    outputs: &mut [usize],
-) -> Ended
-    requires { (nodes.old ≡ replicate (length nodes.old) 0) × (outputs.old ≡ replicate (length outputs.old) 0) × (length text.now < 2097152) }
-    ensures { Ends (blif_lines text.now (places_in (length nodes.old) (length names.old) (length outputs.old))) result nodes.new outputs.new }
-{
-    let mut heads = [0; 256];
-    let r = read_lines(text, &mut heads, nodes, names, outputs);
-    let counts = r.counts;
-    let m = counts.names;
-    let n = r.outputs;
-    let fault = r.fault;
-    match fault {
-        Checked::Refused(e) => Ended {
-            fault: Checked::Refused(e),
+// The format BLIF.
+pub struct Blif;
+
+impl Format for Blif {
+    ghost lines = { blif_lines };
+
+    fn read_joined(
+        text: &[u8],
+        nodes: &mut [usize],
+        names: &mut [usize],
+        outputs: &mut [usize],
+    ) -> Result<Sizes, Refusal> {
+        let mut heads = [0; 256];
+        let read = read_lines(text, &mut heads, nodes, names, outputs)?;
+        let counts = read.counts;
+        let table = NameTable {
+            text,
+            heads: &heads,
+            names,
+            count: counts.names,
+        };
+        resolve_outputs(&table, false, outputs, read.outputs)?;
+        Ok(Sizes {
             nodes: counts.nodes,
-            outputs: n,
-        },
-        Checked::Sound => {
-            let f = resolve_outputs(text, false, &heads, names, m, outputs, n);
-            Ended {
-                fault: f,
-                nodes: counts.nodes,
-                outputs: n,
-            }
-        }
+            outputs: read.outputs,
+        })
     }
-}
-
-// The joined text that stands in front of its area.
-pub fn read_text(
-    used: usize,
-    joined: &mut [u8],
-    nodes: &mut [usize],
-    names: &mut [usize],
-    outputs: &mut [usize],
-) -> Read
-    requires { (nodes.old ≡ replicate (length nodes.old) 0) × (outputs.old ≡ replicate (length outputs.old) 0) × (used ≤ length joined.old) × (used < 2097152) }
-    ensures { (text : List ℕ) → JoinedIn text used joined.old → Leaves text (blif_lines (joined_text text) (places_in (length nodes.old) (length names.old) (length outputs.old))) (length joined.old) (length nodes.old) (length names.old) (length outputs.old) result joined.new nodes.new names.new outputs.new }
-{
-    let ended = read_joined(&joined[..used], nodes, names, outputs);
-    conclude(ended, joined, nodes, names, outputs)
 }
 
 // A BLIF text into a circuit: what the definition gives and leaves, whatever the areas hold.
@@ -66,12 +46,8 @@ pub fn parse_blif(
     nodes: &mut [usize],
     names: &mut [usize],
     outputs: &mut [usize],
-) -> Read
+) -> Result<Sizes, Refusal>
     ensures { Leaves text.now (blif text.now (length joined.old) (length nodes.old) (length names.old) (length outputs.old)) (length joined.old) (length nodes.old) (length names.old) (length outputs.old) result joined.new nodes.new names.new outputs.new }
 {
-    let prepared = prepare(text, joined, nodes, outputs);
-    match prepared {
-        Prepared::Refused(e) => refuse(e, joined, nodes, names, outputs),
-        Prepared::Joined(used) => read_text(used, joined, nodes, names, outputs),
-    }
+    parse::<Blif>(text, joined, nodes, names, outputs)
 }

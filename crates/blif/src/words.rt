@@ -1,17 +1,18 @@
 // The words of `.inputs` and `.outputs`.
-ghost use Rattle.std.specs.Prelude.{◌≡◌, false, ◌-◌, ◌≤◌, length};
+ghost use Rattle.std.specs.Prelude.{◌≡◌, false, ◌-◌, ◌≤◌, length, IfOk, OnErr};
 ghost use Rattle.laws.specs.Areas.{capacity};
 ghost use Rattle.laws.specs.Stretches.{stretch};
 ghost use Rattle.text.specs.Words.{words};
 ghost use Rattle.reading.specs.Reading.{places_in, add_input, add_output, each};
-ghost use Rattle.reading.specs.Holding.{outcome, held_of, Kept, words_of, WordsKept};
+ghost use Rattle.reading.specs.Holding.{outcome, held_of, Kept, KeptForSome, words_of, WordsKept, WordsKeptForSome};
 
-use circuit::refusals::Checked;
+use circuit::refusals::Refusal;
 use reading::outputs::add_output;
-use reading::records::{Counted, Counts, Step, add_input};
-use text::words::next_name;
+use reading::records::{Counts, add_input};
+use text::words::words_between;
 
 // The words of `.inputs`.
+#[tactic(auto, using(text::proofs::WordLaws::each_word), unfolding(reading::specs::Reading::each))]
 pub fn input_words(
     text: &[u8],
     from: usize,
@@ -20,73 +21,38 @@ pub fn input_words(
     heads: &mut [usize; 256],
     nodes: &mut [usize],
     names: &mut [usize],
-) -> Step
+) -> Result<Counts, Refusal>
     requires kept { Kept text.now heads.old nodes.old names.old counts }
     requires from_le_end { (from ≤ end) × (end ≤ length text.now) }
-    ensures kept_2 { Kept text.now heads.new nodes.new names.new result.counts }
-    ensures counts_after { outcome result.fault (held_of nodes.new names.new result.counts) ≡ each (add_input false text.now (places_in (length nodes.old) (length names.old) 0)) (words from (stretch text.now from (end - from))) (held_of nodes.old names.old counts) }
+    ensures kept_2 { IfOk result (λ c. Kept text.now heads.new nodes.new names.new c) }
+    ensures kept_refused { OnErr result (KeptForSome text.now heads.new nodes.new names.new) }
+    ensures counts_after { outcome (λ c. held_of nodes.new names.new c) result ≡ each (add_input false text.now (places_in (length nodes.old) (length names.old) 0)) (words from (stretch text.now from (end - from))) (held_of nodes.old names.old counts) }
 {
-    let mut at = from;
     let mut held = counts;
-    while at < end {
-        let w = next_name(text, at, end);
-        let start = w.start;
-        let len = w.len;
-        if len == 0 {
-            return Step {
-                fault: Checked::Sound,
-                counts: held,
-            };
-        }
-        let step = add_input(text, start, len, false, held, heads, nodes, names);
-        let fault = step.fault;
-        if let Checked::Refused(_) = fault {
-            return step;
-        }
-        held = step.counts;
-        at = start + len;
+    for word in words_between(text, from, end) {
+        held = add_input(text, word, false, held, heads, nodes, names)?;
     }
-    Step {
-        fault: Checked::Sound,
-        counts: held,
-    }
+    Ok(held)
 }
 
-// The words of `.outputs`.
+// The words of `.outputs`. One function of a step for both lists would need a contract on the areas that the step captures.
+#[tactic(auto, using(text::proofs::WordLaws::each_word), unfolding(reading::specs::Reading::each))]
 pub fn output_words(
     text: &[u8],
     from: usize,
     end: usize,
     count: usize,
     outputs: &mut [usize],
-) -> Counted
+) -> Result<usize, Refusal>
     requires words_kept { WordsKept text.now outputs.old count }
     requires from_le_end { (from ≤ end) × (end ≤ length text.now) }
-    ensures words_kept_2 { WordsKept text.now outputs.new result.count }
-    ensures count_after { outcome result.fault (words_of outputs.new result.count) ≡ each (add_output (capacity 5 (length outputs.old))) (words from (stretch text.now from (end - from))) (words_of outputs.old count) }
+    ensures words_kept_2 { IfOk result (λ n. WordsKept text.now outputs.new n) }
+    ensures words_refused { OnErr result (WordsKeptForSome text.now outputs.new) }
+    ensures count_after { outcome (λ n. words_of outputs.new n) result ≡ each (add_output (capacity 5 (length outputs.old))) (words from (stretch text.now from (end - from))) (words_of outputs.old count) }
 {
-    let mut at = from;
     let mut n = count;
-    while at < end {
-        let w = next_name(text, at, end);
-        let start = w.start;
-        let len = w.len;
-        if len == 0 {
-            return Counted {
-                fault: Checked::Sound,
-                count: n,
-            };
-        }
-        let step = add_output(text, start, len, n, outputs);
-        let fault = step.fault;
-        if let Checked::Refused(_) = fault {
-            return step;
-        }
-        n = step.count;
-        at = start + len;
+    for word in words_between(text, from, end) {
+        n = add_output(text, word, n, outputs)?;
     }
-    Counted {
-        fault: Checked::Sound,
-        count: n,
-    }
+    Ok(n)
 }

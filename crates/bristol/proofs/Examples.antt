@@ -1,5 +1,6 @@
 -- Examples, each computed from the definition: areas for 10 nodes, 2 outputs and 8 wires.
 -- Assumes nothing.
+use Rattle.std.specs.Prelude.{Err, Ok}
 use Prim.Native.Nat.{ℕ}
 use Prim.Native.Char.{code}
 use Prim.Native.String.{String, [] as empty, ◌∷◌ as ◌then◌}
@@ -14,7 +15,8 @@ use Rattle.circuit.specs.declared.records.BoolWire.TheVariants.{Node}
 use Rattle.circuit.specs.declared.records.BoolNode.{BoolNode}
 use Rattle.circuit.specs.declared.records.Name.TheVariants.{Number}
 use Rattle.circuit.specs.declared.records.Output.{Output}
-use Rattle.circuit.specs.Refusals.{number_of, yes}
+use Rattle.circuit.specs.declared.records.Sizes.{Sizes}
+use Rattle.circuit.specs.Refusals.{Try, number_of}
 use Rattle.text.specs.Blanks.{is_blank, trim_start, trim_end, trim}
 use Rattle.text.specs.Bytes.{is_ascii, upper}
 use Rattle.text.specs.Words.{words, split_whitespace}
@@ -24,8 +26,6 @@ use Rattle.bristol_rows.specs.Numbers.{number, each_number}
 use Rattle.bristol_rows.specs.Header.{grouped_wire_count, groups, group_lines, two_numbers, header}
 use Rattle.bristol_rows.specs.Operation.{is_alias, inverts, two_input_table, truth_table, operation}
 use Rattle.bristol_rows.specs.Row.{drivers, row_output, row_wires, row}
-use Rattle.circuit.specs.declared.refusals.Read.{Read}
-use Rattle.circuit.specs.declared.refusals.Read.TheVariants.{Circuit, Refused}
 use Rattle.bristol.specs.Bristol.{input_node, drive, store_cell, store, row_step, rows, outputs_from, start, body, circuit, bristol_circuit, bristol}
 
 -- a quoted text as bytes
@@ -34,9 +34,9 @@ bytes empty = []
 bytes (c then s) = code c ∷ bytes s
 
 -- of a refusal its number, of a circuit 0 and its counts
-unfoldable pub answered : Read → List ℕ
-answered (Refused e) = number_of e ∷ []
-answered (Circuit n o) = 0 ∷ n ∷ o ∷ []
+unfoldable pub answered : Try Sizes → List ℕ
+answered (Err e) = number_of e ∷ []
+answered (Ok s) = 0 ∷ s.nodes ∷ s.outputs ∷ []
 
 pub record Case : Type 0 where
   pub text : String
@@ -177,7 +177,7 @@ output w a = record { name = Number (record { 0 = w }); wire = a }
 abbrev adder : String
 adder = "5 8\n3 1 1 1\n1 2\n\n2 1 0 1 3 XOR\n2 1 3 2 6 xor\n2 1 0 1 4 AND # carry\n2 1 3 2 5 And\n2 1 4 5 7 OR\n"
 
-pub adder_is : bristol_circuit (bytes adder) 90 10 8 ≡ yes (record {
+pub adder_is : bristol_circuit (bytes adder) 90 10 8 ≡ Ok (record {
   nodes = input_node 0 ∷ input_node 1 ∷ input_node 2 ∷ gate 3 6 (n 0) (n 1) ∷ gate 6 6 (n 3) (n 2) ∷ gate 4 8 (n 0) (n 1) ∷ gate 5 8 (n 3) (n 2) ∷ gate 7 14 (n 5) (n 6) ∷ [];
   outputs = output 6 (n 4) ∷ output 7 (n 7) ∷ [];
 })

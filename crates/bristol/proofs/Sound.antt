@@ -1,5 +1,6 @@
 -- Every circuit that the reader of Bristol texts accepts passes the circuit check.
 -- Assumes nothing.
+use Rattle.std.specs.Prelude.{Err, Ok}
 use Prim.Native.Nat.{ℕ, zero, suc, ◌+◌, ◌-◌, ◌<◌}
 use mathlib.Core.Path.{◌≡◌, refl, sym, ap, ◌∙◌, subst}
 use mathlib.Core.Bool.{Bool, true, false, cond}
@@ -16,13 +17,12 @@ use Rattle.laws.proofs.Filling.{length_snoc}
 use Rattle.laws.proofs.Sums.{front_at, past_front}
 use Rattle.laws.proofs.Tests.{neither}
 use Rattle.circuit.specs.declared.refusals.Refusal.TheVariants.{Unknown, WrongCount}
-use Rattle.circuit.specs.declared.refusals.Checked.TheVariants.{Sound}
 use Rattle.circuit.specs.declared.records.WireNumber.{WireNumber}
 use Rattle.circuit.specs.declared.records.BoolWire.{BoolWire}
 use Rattle.circuit.specs.declared.records.BoolWire.TheVariants.{Const, Node}
 use Rattle.circuit.specs.declared.records.BoolNode.{BoolNode}
 use Rattle.circuit.specs.declared.records.Output.{Output}
-use Rattle.circuit.specs.Refusals.{Try, no, yes, and_then, need}
+use Rattle.circuit.specs.Refusals.{Try, and_then, need}
 use Rattle.circuit.specs.Records.{wire_of, wire_word, no_wire}
 use Rattle.circuit.specs.Check.{not_below, some_not_below, check_circuit}
 use Rattle.circuit.specs.Circuits.{Circuit}
@@ -46,14 +46,14 @@ record Fits (n t : ℕ) : Type 0 where
   two : n ≡ 2 → t < 16
   few : (n ≡ 1 → ⊥) → n ≡ 2
 
-cond_yes : {A : Type 0} (P : A → Type 0) (t : Bool) (a b : Try A) (x : A) → cond t a b ≡ yes x → (a ≡ yes x → P x) → (b ≡ yes x → P x) → P x
+cond_yes : {A : Type 0} (P : A → Type 0) (t : Bool) (a b : Try A) (x : A) → cond t a b ≡ Ok x → (a ≡ Ok x → P x) → (b ≡ Ok x → P x) → P x
 cond_yes P true a b x h f g = f h
 cond_yes P false a b x h f g = g h
 
-small : (k t : ℕ) → k < 16 → ◌≡◌ {A = Try ℕ} (yes k) (yes t) → t < 16
+small : (k t : ℕ) → k < 16 → ◌≡◌ {A = Try ℕ} (Ok k) (Ok t) → t < 16
 small k t l e = subst (λ (x : ℕ). x < 16) (yes_same e) l
 
-two_small : (w : List ℕ) (t : ℕ) → two_input_table w ≡ yes t → t < 16
+two_small : (w : List ℕ) (t : ℕ) → two_input_table w ≡ Ok t → t < 16
 unfolding two_input_table
 two_small w t h =
     cond_yes P (is_named w (65 ∷ 78 ∷ 68 ∷ [])) _ _ t h (small 8 t (omega arith))
@@ -66,13 +66,13 @@ two_small w t h =
     P : ℕ → Type 0
     P x = x < 16
 
-table_fits : (w : List ℕ) (n t : ℕ) → truth_table w n ≡ yes t → Fits n t
+table_fits : (w : List ℕ) (n t : ℕ) → truth_table w n ≡ Ok t → Fits n t
 unfolding truth_table
 table_fits w n t h = go (eqb n 1) refl (eqb n 2) refl h
   where
-    go : (a : Bool) → eqb n 1 ≡ a → (b : Bool) → eqb n 2 ≡ b → cond a (need (inverts w) Unknown (yes 1)) (cond b (two_input_table w) (no Unknown)) ≡ yes t → Fits n t
+    go : (a : Bool) → eqb n 1 ≡ a → (b : Bool) → eqb n 2 ≡ b → cond a (need (inverts w) Unknown (Ok 1)) (cond b (two_input_table w) (Err Unknown)) ≡ Ok t → Fits n t
     go true e b f h =
-        let q : 1 ≡ t = yes_same (need-yes (inverts w) Unknown (yes 1) t h).1 in
+        let q : 1 ≡ t = yes_same (need-yes (inverts w) Unknown (Ok 1) t h).1 in
         let one : n ≡ 1 = eqb-true n 1 e in
         record { one = λ _. omega (arith, q); two = λ _. omega (arith, q); few = λ z. absurd (z one) }
     go false e true f h =
@@ -85,13 +85,13 @@ abbrev OpFits : ℕ → Op → Type 0
 OpFits n same = n ≡ 1
 OpFits n (table t) = Fits n t
 
-op_fits : (w : List ℕ) (n : ℕ) (op : Op) → operation w n ≡ yes op → OpFits n op
+op_fits : (w : List ℕ) (n : ℕ) (op : Op) → operation w n ≡ Ok op → OpFits n op
 unfolding operation
 op_fits w n op h = go (is_alias w) h
   where
-    go : (a : Bool) → cond a (need (eqb n 1) WrongCount (yes same)) (and_then (truth_table w n) (λ t. yes (table t))) ≡ yes op → OpFits n op
+    go : (a : Bool) → cond a (need (eqb n 1) WrongCount (Ok same)) (and_then (truth_table w n) (λ t. Ok (table t))) ≡ Ok op → OpFits n op
     go true h =
-        let a = need-yes (eqb n 1) WrongCount (yes same) op h in
+        let a = need-yes (eqb n 1) WrongCount (Ok same) op h in
         subst (OpFits n) (yes_same a.1) (eqb-true n 1 a.0)
     go false h =
         let a = then_yes (truth_table w n) _ op h in
@@ -111,7 +111,7 @@ slot_below m wires h n =
     let l : get_or wires n 0 - 1 < m + 2 = omega (arith, h n) in
     word_below m (get_or wires n 0 - 1) l
 
-drivers_below : (m : ℕ) (wires : List ℕ) → Wired m wires → (ns : List ℕ) (ds : List BoolWire) → drivers wires (map wire_number ns) ≡ yes ds → Below m ds
+drivers_below : (m : ℕ) (wires : List ℕ) → Wired m wires → (ns : List ℕ) (ds : List BoolWire) → drivers wires (map wire_number ns) ≡ Ok ds → Below m ds
 drivers_below m wires h [] ds e i = ap (λ (l : List BoolWire). not_below m (get_or l i no_wire)) (drivers-nil wires ds e)
 drivers_below m wires h (n ∷ ns) ds e i =
     let f = front wires n ns ds e in
@@ -171,13 +171,13 @@ wire_small m (Const false) h = omega arith
 wire_small m (Node n) h = omega (arith, leb-false m n.0 h)
 
 drive-sound : (out : WireNumber) (w : BoolWire) (ns : List BoolNode) (ws : List ℕ) (s' : State) → AllSit 0 ns → Wired (length ns) ws → not_below (length ns) w ≡ false
-    → drive out w ns ws ≡ yes s' → StateSound s'
+    → drive out w ns ws ≡ Ok s' → StateSound s'
 unfolding drive
 drive-sound out w ns ws s' a b c h =
     subst StateSound (yes_same (need-yes (eqb (get_or ws out.0 0) 0) _ _ s' h).1)
     (record { sits = a; wired = wired_set (length ns) ws b out.0 (wire_word w + 1) (wire_small (length ns) w c) })
 
-store-sound : (room : ℕ) (g : Gate) (s s' : State) → StateSound s → GateSound (length s.nodes) g → store room g s ≡ yes s' → StateSound s'
+store-sound : (room : ℕ) (g : Gate) (s s' : State) → StateSound s → GateSound (length s.nodes) g → store room g s ≡ Ok s' → StateSound s'
 unfolding store store_cell
 store-sound room (alias out w) s s' k b h = drive-sound out w s.nodes s.wires s' k.sits k.wired b h
 store-sound room (cell out n) s s' k b h =
@@ -187,7 +187,7 @@ store-sound room (cell out n) s s' k b h =
     (λ i. omega (arith, k.wired i, more)) (lt-leb (length (s.nodes ++ (n ∷ []))) (length s.nodes) (omega (arith, more)))
     (need-yes (ltb (length s.nodes) room) _ _ s' h).1
 
-rows-sound : (room : ℕ) (ls : List (List ℕ)) (s s' : State) → StateSound s → rows room ls s ≡ yes s' → StateSound s'
+rows-sound : (room : ℕ) (ls : List (List ℕ)) (s s' : State) → StateSound s → rows room ls s ≡ Ok s' → StateSound s'
 unfolding rows row_step
 rows-sound room [] s s' k h = subst StateSound (yes_same h) k
 rows-sound room (l ∷ ls) s s' k h =
@@ -222,7 +222,7 @@ below_snoc m (p ∷ os) o h k =
     let a = neither (not_below m p.wire) _ h in
     rw a.0 (below_snoc m os o a.1 k)
 
-outputs_below : (m room k : ℕ) (ss : List ℕ) → Wired m ss → (os os' : List Output) → outputs_from room k ss os ≡ yes os'
+outputs_below : (m room k : ℕ) (ss : List ℕ) → Wired m ss → (os os' : List Output) → outputs_from room k ss os ≡ Ok os'
     → some_not_below m (out_wires os) ≡ false → some_not_below m (out_wires os') ≡ false
 unfolding outputs_from
 outputs_below m room k [] h os os' e b = subst (λ (l : List Output). some_not_below m (out_wires l) ≡ false) (yes_same e) b
@@ -238,7 +238,7 @@ none_yet m = refl
 
 -- ---- the whole
 
-pub bristol-sound : (text : List ℕ) (nodes outputs wires : ℕ) (c : Circuit) → bristol_circuit text nodes outputs wires ≡ yes c → check_circuit c.nodes (out_wires c.outputs) ≡ Sound
+pub bristol-sound : (text : List ℕ) (nodes outputs wires : ℕ) (c : Circuit) → bristol_circuit text nodes outputs wires ≡ Ok c → check_circuit c.nodes (out_wires c.outputs) ≡ Ok tt
 unfolding bristol_circuit circuit body
 bristol-sound text nodes outputs wires c e =
     let p = need-yes (leb (length text) 1048576) _ _ c e in
@@ -252,4 +252,4 @@ bristol-sound text nodes outputs wires c e =
     let o = then_yes (outputs_from (capacity 5 outputs) from (drop from s.0.wires) []) _ c g.1 in
     let k = rows-sound (capacity 9 nodes) (drop 3 (kept_lines text)) (start h.0) s.0 (start-sound h.0) s.1 in
     let b = outputs_below (length s.0.nodes) (capacity 5 outputs) from (drop from s.0.wires) (λ i. omega (arith, get_or-drop from s.0.wires i 0, k.wired (from + i))) [] o.0 o.1 (none_yet (length s.0.nodes)) in
-    subst (λ (z : Circuit). check_circuit z.nodes (out_wires z.outputs) ≡ Sound) (yes_same o.2) (circuit_checked s.0.nodes (out_wires o.0) k.sits b)
+    subst (λ (z : Circuit). check_circuit z.nodes (out_wires z.outputs) ≡ Ok tt) (yes_same o.2) (circuit_checked s.0.nodes (out_wires o.0) k.sits b)

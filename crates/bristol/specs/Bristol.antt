@@ -1,8 +1,7 @@
 -- The reader of Bristol texts: what it answers and leaves in each area, from the text and the areas' lengths.
 -- Assumes nothing.
-use Rattle.std.specs.Prelude.{ℕ, suc, ◌+◌, ◌-◌, List, [], ◌∷◌, ◌++◌, eqb, leb, ltb, length, set, drop, replicate}
+use Rattle.std.specs.Prelude.{ℕ, suc, ◌+◌, ◌-◌, List, [], ◌∷◌, ◌++◌, eqb, leb, ltb, length, set, drop, replicate, Ok}
 use Rattle.laws.specs.Areas.{up_from, capacity}
-use Rattle.circuit.specs.declared.refusals.Read.{Read}
 use Rattle.circuit.specs.declared.refusals.Refusal.TheVariants.{TextTooLong, NotAscii, NoRoom, NoDriver, HeaderMismatch, DrivenTwice}
 use Rattle.circuit.specs.declared.records.NodeNumber.{NodeNumber}
 use Rattle.circuit.specs.declared.records.WireNumber.{WireNumber}
@@ -11,7 +10,8 @@ use Rattle.circuit.specs.declared.records.BoolWire.TheVariants.{Node}
 use Rattle.circuit.specs.declared.records.BoolNode.{BoolNode}
 use Rattle.circuit.specs.declared.records.Name.TheVariants.{Number}
 use Rattle.circuit.specs.declared.records.Output.{Output}
-use Rattle.circuit.specs.Refusals.{Try, yes, and_then, need}
+use Rattle.circuit.specs.declared.records.Sizes.{Sizes}
+use Rattle.circuit.specs.Refusals.{Try, and_then, need}
 use Rattle.circuit.specs.Records.{wire_of, wire_word, no_wire}
 use Rattle.circuit.specs.Circuits.{Circuit, filled, read_answer, node_words, output_words}
 use Rattle.text.specs.Bytes.{is_ascii}
@@ -34,7 +34,7 @@ node_number n = record { 0 = n }
 
 -- "14 Bristol wire driven twice"
 unfoldable pub drive : WireNumber → BoolWire → List BoolNode → List ℕ → Try State
-drive out w ns ws = need (eqb (slot_of ws out) 0) DrivenTwice (yes (record { nodes = ns; wires = set ws out.0 (wire_word w + 1) }))
+drive out w ns ws = need (eqb (slot_of ws out) 0) DrivenTwice (Ok (record { nodes = ns; wires = set ws out.0 (wire_word w + 1) }))
 
 -- "then 3, 14"
 unfoldable pub store_cell : ℕ → WireNumber → BoolNode → List BoolNode → List ℕ → Try State
@@ -48,7 +48,7 @@ unfoldable pub row_step : ℕ → List ℕ → State → Try State
 row_step room line s = and_then (row s.wires (split_whitespace line)) (λ g. store room g s)
 
 unfoldable pub rows : ℕ → List (List ℕ) → State → Try State
-rows room [] s = yes s
+rows room [] s = Ok s
 rows room (l ∷ ls) s = and_then (row_step room l s) (rows room ls)
 
 -- ---- the outputs
@@ -59,7 +59,7 @@ output_of w slot = record { name = Number w; wire = wire_of (slot - 1) }
 
 -- "5 if undefined", then 3: the outputs of wires k, k + 1, .., by their slots
 unfoldable pub outputs_from : ℕ → ℕ → List ℕ → List Output → Try (List Output)
-outputs_from room k [] os = yes os
+outputs_from room k [] os = Ok os
 outputs_from room k (s ∷ ss) os =
     need (ltb 0 s) NoDriver (need (ltb (length os) room) NoRoom
     (outputs_from room (suc k) ss (os ++ (output_of (wire_number k) s ∷ []))))
@@ -81,7 +81,7 @@ unfoldable pub body : ℕ → ℕ → Head → List (List ℕ) → Try Circuit
 body nodeRoom outputRoom h ls =
     and_then (rows nodeRoom ls (start h)) (λ s. need (eqb (length ls) h.gates) HeaderMismatch
     (and_then (outputs_from outputRoom (h.wires - h.outputs) (drop (h.wires - h.outputs) s.wires) [])
-    (λ os. yes (record { nodes = s.nodes; outputs = os }))))
+    (λ os. Ok (record { nodes = s.nodes; outputs = os }))))
 
 -- "Then 3 (wire area, node area)."
 unfoldable pub circuit : ℕ → ℕ → ℕ → List (List ℕ) → Try Circuit
@@ -97,7 +97,7 @@ bristol_circuit text nodes outputs wires =
 
 -- what the call answers and leaves
 pub record Left : Type 0 where
-  pub answer : Read
+  pub answer : Try Sizes
   pub nodes : List ℕ
   pub outputs : List ℕ
   pub wires : List ℕ

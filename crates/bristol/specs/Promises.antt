@@ -1,22 +1,17 @@
 -- What the functions of the reader promise: their answers and areas against the definition.
 -- Assumes nothing.
-use Rattle.std.specs.Prelude.{ℕ, ◌+◌, ◌-◌, ◌*◌, ◌≤◌, ◌≡◌, List, [], ◌++◌, length, replicate}
+use Rattle.std.specs.Prelude.{ℕ, ◌+◌, ◌-◌, ◌*◌, ◌≤◌, ◌≡◌, List, [], ◌++◌, length, replicate, Err, Ok}
 use Rattle.laws.specs.Areas.{encodes, capacity}
-use Rattle.circuit.specs.declared.refusals.Read.{Read}
-use Rattle.circuit.specs.declared.refusals.Read.TheVariants.{Circuit as ReadCircuit, Refused as ReadRefused}
 use Rattle.circuit.specs.declared.records.BoolNode.{BoolNode}
+use Rattle.circuit.specs.declared.records.NodeNumber.{NodeNumber}
 use Rattle.circuit.specs.declared.records.Output.{Output}
-use Rattle.circuit.specs.Refusals.{Try, no, yes, and_then}
+use Rattle.circuit.specs.declared.records.Sizes.{Sizes}
+use Rattle.circuit.specs.Refusals.{Try, Checked, and_then}
 use Rattle.circuit.specs.Records.{encode_node, encode_output}
 use Rattle.circuit.specs.Circuits.{Circuit}
 use Rattle.bristol_rows.specs.declared.answers.Head.{Head}
 use Rattle.bristol_rows.specs.Row.{Gate}
-use Rattle.bristol.specs.declared.answers.Step.{Step}
-use Rattle.bristol.specs.declared.answers.Step.TheVariants.{Refused as StepRefused, Next}
 use Rattle.bristol.specs.declared.answers.Rows.{Rows}
-use Rattle.bristol.specs.declared.answers.Rows.TheVariants.{Refused as RowsRefused, Are as RowsAt}
-use Rattle.bristol.specs.declared.answers.Outputs.{Outputs}
-use Rattle.bristol.specs.declared.answers.Outputs.TheVariants.{Refused as OutputsRefused, Are as OutputsAt}
 use Rattle.bristol.specs.Bristol.{State, store, Left}
 
 -- ---- areas of zeros, and areas that hold records, zeros after them
@@ -38,13 +33,18 @@ HoldsOutputs a os = Holds encode_output 5 a os
 -- the areas hold the state that the definition gives
 pub record Stands (nodes wires : List ℕ) (k : ℕ) (x : Try State) : Type 0 where
   pub held : List BoolNode
-  pub is : x ≡ yes (record { nodes = held; wires = wires })
+  pub is : x ≡ Ok (record { nodes = held; wires = wires })
   pub holds : HoldsNodes nodes held
   pub count : length held ≡ k
 
-abbrev pub StepIs : List ℕ → List ℕ → Try State → Step → Type 0
-StepIs nodes wires x (StepRefused e) = x ≡ no e
-StepIs nodes wires x (Next n) = Stands nodes wires n.0 x
+-- the wires are those of the state that the definition gives, with the nodes it began with
+abbrev pub DriveIs : List BoolNode → List ℕ → Try State → Checked → Type 0
+DriveIs ns wires x (Err e) = x ≡ Err e
+DriveIs ns wires x (Ok u) = x ≡ Ok (record { nodes = ns; wires = wires })
+
+abbrev pub StepIs : List ℕ → List ℕ → Try State → Try NodeNumber → Type 0
+StepIs nodes wires x (Err e) = x ≡ Err e
+StepIs nodes wires x (Ok n) = Stands nodes wires n.0 x
 
 abbrev pub store_of : ℕ → Try Gate → State → Try State
 store_of room g s = and_then g (λ g. store room g s)
@@ -53,21 +53,21 @@ pub record RowsStand (n : ℕ) (nodes wires : List ℕ) (x : Try State) (k rows 
   pub stands : Stands nodes wires k x
   pub all : rows ≡ n
 
-abbrev pub RowsAre : ℕ → List ℕ → List ℕ → Try State → Rows → Type 0
-RowsAre n nodes wires x (RowsRefused e) = x ≡ no e
-RowsAre n nodes wires x (RowsAt k rows) = RowsStand n nodes wires x k.0 rows
+abbrev pub RowsAre : ℕ → List ℕ → List ℕ → Try State → Try Rows → Type 0
+RowsAre n nodes wires x (Err e) = x ≡ Err e
+RowsAre n nodes wires x (Ok r) = RowsStand n nodes wires x r.next.0 r.rows
 
 -- ---- the outputs
 
 pub record OutputsStand (outputs : List ℕ) (x : Try (List Output)) (k : ℕ) : Type 0 where
   pub list : List Output
-  pub is : x ≡ yes list
+  pub is : x ≡ Ok list
   pub holds : HoldsOutputs outputs list
   pub count : length list ≡ k
 
-abbrev pub OutputsAre : List ℕ → Try (List Output) → Outputs → Type 0
-OutputsAre outputs x (OutputsRefused e) = x ≡ no e
-OutputsAre outputs x (OutputsAt k) = OutputsStand outputs x k
+abbrev pub OutputsAre : List ℕ → Try (List Output) → Try ℕ → Type 0
+OutputsAre outputs x (Err e) = x ≡ Err e
+OutputsAre outputs x (Ok k) = OutputsStand outputs x k
 
 -- ---- the whole
 
@@ -82,18 +82,18 @@ pub record Ready (text : List ℕ) (rest : ℕ) (head : Head) (nodes outputs wir
 
 pub record Built (nodes outputs : List ℕ) (x : Try Circuit) (n m : ℕ) : Type 0 where
   pub circuit : Circuit
-  pub is : x ≡ yes circuit
+  pub is : x ≡ Ok circuit
   pub nodes_held : HoldsNodes nodes circuit.nodes
   pub outputs_held : HoldsOutputs outputs circuit.outputs
   pub node_count : length circuit.nodes ≡ n
   pub output_count : length circuit.outputs ≡ m
 
-abbrev pub ReadIs : List ℕ → List ℕ → Try Circuit → Read → Type 0
-ReadIs nodes outputs x (ReadRefused e) = x ≡ no e
-ReadIs nodes outputs x (ReadCircuit n m) = Built nodes outputs x n m
+abbrev pub ReadIs : List ℕ → List ℕ → Try Circuit → Try Sizes → Type 0
+ReadIs nodes outputs x (Err e) = x ≡ Err e
+ReadIs nodes outputs x (Ok s) = Built nodes outputs x s.nodes s.outputs
 
 -- answer and areas are those of the definition
-pub record Leaves (l : Left) (r : Read) (nodes outputs wires : List ℕ) : Type 0 where
+pub record Leaves (l : Left) (r : Try Sizes) (nodes outputs wires : List ℕ) : Type 0 where
   pub answer_is : r ≡ l.answer
   pub nodes_are : nodes ≡ l.nodes
   pub outputs_are : outputs ≡ l.outputs

@@ -5,14 +5,14 @@ ghost use Rattle.text.specs.Lines.{kept_lines};
 ghost use Rattle.bristol.specs.Bristol.{input_node, input_slot, rows, body, circuit, leave, bristol};
 ghost use Rattle.bristol.specs.Promises.{Zeros, HoldsNodes, Ready, RowsAre, ReadIs, Leaves};
 
-use crate::answers::{Outputs, Rows};
+use crate::answers::Rows;
 use crate::outputs::put_wires;
 use crate::rows::read_rows;
 use bristol_rows::answers::{Head, Header};
 use bristol_rows::header::read_header;
-use circuit::areas::{clear, put_node, records_in};
-use circuit::records::{BoolNode, BoolWire, Name, NodeNumber, WireNumber};
-use circuit::refusals::{Read, Refusal};
+use circuit::areas::{put_node, records_in};
+use circuit::records::{BoolNode, BoolWire, Name, NodeNumber, Sizes, WireNumber};
+use circuit::refusals::Refusal;
 use text::bytes::is_ascii;
 
 // The inputs: node k is the input of wire k.
@@ -20,9 +20,8 @@ pub fn put_inputs(nodes: &mut [usize], count: usize)
     requires { (count * 9 ≤ length nodes.old) × HoldsNodes nodes.old [] }
     ensures { HoldsNodes nodes.new (up_from input_node 0 count) }
 {
-    let mut k = 0;
-    while k < count {
-        let n = BoolNode {
+    for k in 0..count {
+        let input = BoolNode {
             kind: 1,
             count: 0,
             table: 0,
@@ -30,8 +29,7 @@ pub fn put_inputs(nodes: &mut [usize], count: usize)
             first: BoolWire::Const(false),
             second: BoolWire::Const(false),
         };
-        put_node(nodes, k, n);
-        k += 1;
+        put_node(nodes, k, input);
     }
 }
 
@@ -40,10 +38,8 @@ pub fn drive_inputs(wires: &mut [usize], count: usize)
     requires { (count ≤ length wires.old) × (count < 1048577) }
     ensures { wires.new ≡ up_from input_slot 0 count ++ drop count wires.old }
 {
-    let mut k = 0;
-    while k < count {
+    for k in 0..count {
         wires[k] = k + 3;
-        k += 1;
     }
 }
 
@@ -54,7 +50,7 @@ pub fn read_gates(
     nodes: &mut [usize],
     wires: &mut [usize],
     inputs: usize,
-) -> Rows
+) -> Result<Rows, Refusal>
     requires { (rest ≤ length text.now + 1) × (inputs ≤ length wires.old) × (inputs ≤ capacity 9 (length nodes.old)) × HoldsNodes nodes.old [] }
     ensures { RowsAre (length (kept_lines (drop rest text.now))) nodes.new wires.new (rows (capacity 9 (length nodes.old)) (kept_lines (drop rest text.now)) (record { nodes = up_from input_node 0 inputs; wires = up_from input_slot 0 inputs ++ drop inputs wires.old })) result }
 {
@@ -64,6 +60,7 @@ pub fn read_gates(
 }
 
 // The circuit of a header that fits the areas; `wires` has a place for each wire.
+#[tactic(auto, unfolding(crate::specs::Bristol::body))]
 pub fn read_body(
     text: &[u8],
     rest: usize,
@@ -71,29 +68,19 @@ pub fn read_body(
     nodes: &mut [usize],
     outputs: &mut [usize],
     wires: &mut [usize],
-) -> Read
+) -> Result<Sizes, Refusal>
     requires { Ready text.now rest head nodes.old outputs.old wires.old }
     ensures { ReadIs nodes.new outputs.new (body (capacity 9 (length nodes.old)) (capacity 5 (length outputs.old)) head (kept_lines (drop rest text.now))) result }
 {
-    let inputs = head.inputs;
-    let r = read_gates(text, rest, nodes, wires, inputs);
-    match r {
-        Rows::Refused(e) => Read::Refused(e),
-        Rows::Are { next, rows } => {
-            if rows != head.gates {
-                return Read::Refused(Refusal::HeaderMismatch);
-            }
-            let from = head.wires - head.outputs;
-            let o = put_wires(wires, from, outputs);
-            match o {
-                Outputs::Refused(e) => Read::Refused(e),
-                Outputs::Are(m) => Read::Circuit {
-                    nodes: next.0,
-                    outputs: m,
-                },
-            }
-        }
+    let read = read_gates(text, rest, nodes, wires, head.inputs)?;
+    if read.rows != head.gates {
+        return Err(Refusal::HeaderMismatch);
     }
+    let count = put_wires(wires, head.wires - head.outputs, outputs)?;
+    Ok(Sizes {
+        nodes: read.next.0,
+        outputs: count,
+    })
 }
 
 // The same, with zeros in the wires after it, and in the other areas after a refusal.
@@ -104,90 +91,72 @@ pub fn read_clean(
     nodes: &mut [usize],
     outputs: &mut [usize],
     wires: &mut [usize],
-) -> Read
+) -> Result<Sizes, Refusal>
     requires { Ready text.now rest head nodes.old outputs.old wires.old }
     ensures { Leaves (leave (length nodes.old) (length outputs.old) (length wires.old) (body (capacity 9 (length nodes.old)) (capacity 5 (length outputs.old)) head (kept_lines (drop rest text.now)))) result nodes.new outputs.new wires.new }
 {
-    let r = read_body(text, rest, head, nodes, outputs, wires);
-    clear(wires);
-    match r {
-        Read::Circuit {
-            nodes: n,
-            outputs: m,
-        } => Read::Circuit {
-            nodes: n,
-            outputs: m,
-        },
-        Read::Refused(e) => {
-            clear(nodes);
-            clear(outputs);
-            Read::Refused(e)
-        }
+    let read = read_body(text, rest, head, nodes, outputs, wires);
+    wires.fill(0);
+    if read.is_err() {
+        nodes.fill(0);
+        outputs.fill(0);
     }
+    read
 }
 
 // A header and what follows it, into areas that are zero.
+#[tactic(auto, unfolding(crate::specs::Bristol::circuit))]
 pub fn read_circuit(
     text: &[u8],
     nodes: &mut [usize],
     outputs: &mut [usize],
     wires: &mut [usize],
-) -> Read
+) -> Result<Sizes, Refusal>
     requires { Zeros nodes.old × Zeros outputs.old × Zeros wires.old }
     ensures { Leaves (leave (length nodes.old) (length outputs.old) (length wires.old) (circuit (capacity 9 (length nodes.old)) (capacity 5 (length outputs.old)) (capacity 1 (length wires.old)) (kept_lines text.now))) result nodes.new outputs.new wires.new }
 {
-    let h = read_header(text);
-    match h {
-        Header::Refused(e) => Read::Refused(e),
-        Header::Is { head, rest } => {
-            let wire_room = records_in(wires.len(), 1);
-            let node_room = records_in(nodes.len(), 9);
-            let count = head.wires;
-            if wire_room < count {
-                return Read::Refused(Refusal::NoRoom);
-            }
-            if node_room < head.inputs {
-                return Read::Refused(Refusal::NoRoom);
-            }
-            read_clean(text, rest, head, nodes, outputs, &mut wires[..count])
-        }
+    let Header { head, rest } = read_header(text)?;
+    if records_in(wires.len(), 1) < head.wires || records_in(nodes.len(), 9) < head.inputs {
+        return Err(Refusal::NoRoom);
     }
+    read_clean(text, rest, head, nodes, outputs, &mut wires[..head.wires])
 }
 
 // The checks of the text, then its circuit.
+#[tactic(auto, unfolding(crate::specs::Bristol::bristol, crate::specs::Bristol::bristol_circuit))]
 pub fn read_text(
     text: &[u8],
     nodes: &mut [usize],
     outputs: &mut [usize],
     wires: &mut [usize],
-) -> Read
+) -> Result<Sizes, Refusal>
     requires { Zeros nodes.old × Zeros outputs.old × Zeros wires.old }
     ensures { Leaves (bristol text.now (length nodes.old) (length outputs.old) (length wires.old)) result nodes.new outputs.new wires.new }
 {
     if 1048576 < text.len() {
-        return Read::Refused(Refusal::TextTooLong);
+        return Err(Refusal::TextTooLong);
     }
-    if is_ascii(text) {
-        return read_circuit(text, nodes, outputs, wires);
+    if !is_ascii(text) {
+        return Err(Refusal::NotAscii);
     }
-    Read::Refused(Refusal::NotAscii)
+    read_circuit(text, nodes, outputs, wires)
 }
 
 pub fn clear_all(nodes: &mut [usize], outputs: &mut [usize], wires: &mut [usize])
     ensures { (nodes.new ≡ replicate (length nodes.old) 0) × (outputs.new ≡ replicate (length outputs.old) 0) × (wires.new ≡ replicate (length wires.old) 0) }
 {
-    clear(nodes);
-    clear(outputs);
-    clear(wires);
+    nodes.fill(0);
+    outputs.fill(0);
+    wires.fill(0);
 }
 
-// A Bristol text into areas for nodes, outputs and wires; the wires are a work area.
+// A Bristol text into areas for nodes, outputs and wires; the wires are a work area. The C interface lends each by itself.
 pub fn parse_bristol(
     text: &[u8],
     nodes: &mut [usize],
     outputs: &mut [usize],
     wires: &mut [usize],
-) -> Read
+) -> Result<Sizes, Refusal>
     ensures { Leaves (bristol text.now (length nodes.old) (length outputs.old) (length wires.old)) result nodes.new outputs.new wires.new }
 {
     clear_all(nodes, outputs, wires);

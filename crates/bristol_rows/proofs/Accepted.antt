@@ -1,5 +1,6 @@
 -- What a row that the definition accepts has.
 -- Assumes nothing.
+use Rattle.std.specs.Prelude.{Ok}
 use Prim.Native.Nat.{ℕ, ◌+◌, ◌<◌}
 use mathlib.Core.Path.{◌≡◌, ap}
 use mathlib.Core.List.{List, [], map}
@@ -9,26 +10,25 @@ use lib.ListN.{length, get_or, take, drop}
 use borrow.Author.Tests.{ltb-true}
 use Rattle.circuit.specs.declared.refusals.Refusal.TheVariants.{NotNumber}
 use Rattle.circuit.specs.declared.records.BoolWire.{BoolWire}
-use Rattle.circuit.specs.Refusals.{yes}
 use Rattle.circuit.proofs.Tries.{no_yes, yes_same, then_yes, need-yes}
 use Rattle.text.specs.Numbers.{parse_usize, parse_each}
 use Rattle.bristol_rows.specs.Numbers.{or_refuse, number, each_number}
 use Rattle.bristol_rows.specs.Operation.{Op, operation}
 use Rattle.bristol_rows.specs.Row.{wire_number, drivers, Gate, gate, row_output, row_wires, row}
 
-number-some : (w : List ℕ) (n : ℕ) → number w ≡ yes n → parse_usize w ≡ some n
+number-some : (w : List ℕ) (n : ℕ) → number w ≡ Ok n → parse_usize w ≡ some n
 unfolding number
 number-some w n h = go (parse_usize w) h
   where
-    go : (x : Option ℕ) → or_refuse NotNumber x ≡ yes n → x ≡ some n
+    go : (x : Option ℕ) → or_refuse NotNumber x ≡ Ok n → x ≡ some n
     go none h = absurd (no_yes h)
     go (some m) h = ap some (yes_same h)
 
-pub each-some : (ws : List (List ℕ)) (ns : List ℕ) → each_number ws ≡ yes ns → parse_each ws ≡ some ns
+pub each-some : (ws : List (List ℕ)) (ns : List ℕ) → each_number ws ≡ Ok ns → parse_each ws ≡ some ns
 unfolding each_number
 each-some ws ns h = go (parse_each ws) h
   where
-    go : (x : Option (List ℕ)) → or_refuse NotNumber x ≡ yes ns → x ≡ some ns
+    go : (x : Option (List ℕ)) → or_refuse NotNumber x ≡ Ok ns → x ≡ some ns
     go none h = absurd (no_yes h)
     go (some ms) h = ap some (yes_same h)
 
@@ -46,11 +46,11 @@ pub record Accepts (wires : List ℕ) (ws : List (List ℕ)) (g : Gate) : Type 0
   pub ins_are : parse_each (take inputs (drop 2 ws)) ≡ some ins
   pub out_is : parse_usize (get_or (after inputs ws) 0 []) ≡ some out
   pub below : out < length wires
-  pub ds_are : drivers wires (map wire_number ins) ≡ yes ds
-  pub op_is : operation (get_or (after inputs ws) 1 []) (length ins) ≡ yes op
+  pub ds_are : drivers wires (map wire_number ins) ≡ Ok ds
+  pub op_is : operation (get_or (after inputs ws) 1 []) (length ins) ≡ Ok op
   pub is : gate (wire_number out) ds op ≡ g
 
-pub accepted : (wires : List ℕ) (ws : List (List ℕ)) (g : Gate) → row wires ws ≡ yes g → Accepts wires ws g
+pub accepted : (wires : List ℕ) (ws : List (List ℕ)) (g : Gate) → row wires ws ≡ Ok g → Accepts wires ws g
 unfolding row row_wires row_output
 accepted wires ws g h =
     let a = need-yes (leb 4 (length ws)) _ _ g h in

@@ -1,5 +1,6 @@
 -- Laws of a row's input wires, gathered word by word.
 -- Assumes nothing.
+use Rattle.std.specs.Prelude.{Err, Ok}
 use Prim.Native.Nat.{ℕ, suc, ◌+◌, ◌-◌, ◌≤◌, ◌<◌, zero-le}
 use mathlib.Core.Path.{◌≡◌, refl, sym, ap, ◌∙◌}
 use mathlib.Core.Bool.{Bool, true, false, cond}
@@ -15,16 +16,13 @@ use borrow.Author.Tests.{eq-eqb, ne_eqb, ltb-true, ltb-false}
 use Rattle.circuit.specs.declared.refusals.Refusal.{Refusal}
 use Rattle.circuit.specs.declared.refusals.Refusal.TheVariants.{NoDriver}
 use Rattle.circuit.specs.declared.records.BoolWire.{BoolWire}
-use Rattle.circuit.specs.Refusals.{Try, no, yes, and_then, need}
+use Rattle.circuit.specs.Refusals.{Try, and_then, need}
 use Rattle.circuit.specs.Records.{wire_of, no_wire}
 use Rattle.text.specs.Numbers.{parse_usize, parse_each, number_of, and_then as then}
 use Rattle.bristol_rows.specs.declared.answers.NextNumber.{NextNumber}
 use Rattle.bristol_rows.specs.declared.answers.Slots.{Slots}
 use Rattle.bristol_rows.specs.Row.{wire_number, drivers}
 use Rattle.bristol_rows.specs.Promises.{words_from, First, no_slots, add_slot, add_input, add_inputs, Gathered}
-
-never : {A : Type 0} → ◌≡◌ {A = ℕ} 0 1 → A
-never z = absurd (omega arith)
 
 -- ---- one slot
 
@@ -83,8 +81,8 @@ module _ (wires : List ℕ) where
       go : (x : Option ℕ) (y : Option (List ℕ)) → parse_each ws ≡ y → then x (λ n. then y (λ ms. some (n ∷ ms))) ≡ some ns
           → ((z : Slots) (ms : List ℕ) → parse_each ws ≡ some ms → add_inputs wires (suc i) z ws ≡ add_slots (suc i) z ms)
           → add_inputs wires (suc i) (add_input wires s i x) ws ≡ add_slots i s ns
-      go none y q h ih = never (cc)
-      go (some n) none q h ih = never (cc)
+      go none y q h ih = cc
+      go (some n) none q h ih = cc
       go (some n) (some ms) q h ih =
           let e : ns ≡ n ∷ ms = cc in
           rw e (ih (add_slot s i (get_or wires n 0)) ms q)
@@ -100,7 +98,7 @@ module _ (wires : List ℕ) where
 
   words_invalid : (ws : List (List ℕ)) (i : ℕ) (s : Slots) → parse_each ws ≡ none → (add_inputs wires i s ws).invalid ≡ true
   unfolding add_inputs parse_each
-  words_invalid [] i s h = never (cc)
+  words_invalid [] i s h = cc
   words_invalid (w ∷ ws) i s h = go (parse_usize w) (parse_each ws) refl h (words_invalid ws (suc i))
     where
       go : (x : Option ℕ) (y : Option (List ℕ)) → parse_each ws ≡ y → then x (λ n. then y (λ ms. some (n ∷ ms))) ≡ none
@@ -108,7 +106,7 @@ module _ (wires : List ℕ) where
           → (add_inputs wires (suc i) (add_input wires s i x) ws).invalid ≡ true
       go none y q h ih = stays_invalid ws (suc i) (add_input wires s i none) refl
       go (some n) none q h ih = ih (add_input wires s i (some n)) q
-      go (some n) (some ms) q h ih = never (cc)
+      go (some n) (some ms) q h ih = cc
 
   -- the slots by the words: the invalid flag, and else the slots of their numbers
   module _ (slots : Slots) (ws : List (List ℕ)) (e : slots ≡ add_inputs wires 0 no_slots ws) where
@@ -129,44 +127,44 @@ module _ (wires : List ℕ) where
   stays_undriven (n ∷ ns) i s u = stays_undriven ns (suc i) (add_slot s i (get_or wires n 0)) (slot_undriven s i (get_or wires n 0) u)
 
   -- a wire that is not driven
-  pub undriven_slots : (ns : List ℕ) (i : ℕ) (s : Slots) (e : Refusal) → drivers wires (map wire_number ns) ≡ no e → ((add_slots i s ns).undriven ≡ true) × (e ≡ NoDriver)
+  pub undriven_slots : (ns : List ℕ) (i : ℕ) (s : Slots) (e : Refusal) → drivers wires (map wire_number ns) ≡ Err e → ((add_slots i s ns).undriven ≡ true) × (e ≡ NoDriver)
   unfolding drivers add_slots
-  undriven_slots [] i s e h = never (cc)
+  undriven_slots [] i s e h = cc
   undriven_slots (n ∷ ns) i s e h = go (ltb 0 (get_or wires n 0)) refl (drivers wires (map wire_number ns)) h (undriven_slots ns (suc i) (add_slot s i (get_or wires n 0)))
     where
-      go : (t : Bool) → ltb 0 (get_or wires n 0) ≡ t → (x : Try (List BoolWire)) → need t NoDriver (and_then x (λ ds. yes (wire_of (get_or wires n 0 - 1) ∷ ds))) ≡ no e
-          → ((f : Refusal) → x ≡ no f → ((add_slots (suc i) (add_slot s i (get_or wires n 0)) ns).undriven ≡ true) × (f ≡ NoDriver))
+      go : (t : Bool) → ltb 0 (get_or wires n 0) ≡ t → (x : Try (List BoolWire)) → need t NoDriver (and_then x (λ ds. Ok (wire_of (get_or wires n 0 - 1) ∷ ds))) ≡ Err e
+          → ((f : Refusal) → x ≡ Err f → ((add_slots (suc i) (add_slot s i (get_or wires n 0)) ns).undriven ≡ true) × (f ≡ NoDriver))
           → ((add_slots (suc i) (add_slot s i (get_or wires n 0)) ns).undriven ≡ true) × (e ≡ NoDriver)
       go false q x h ih =
           let z : get_or wires n 0 ≡ 0 = omega (arith, ltb-false 0 (get_or wires n 0) q) in
           (stays_undriven ns (suc i) (add_slot s i (get_or wires n 0)) (none_slot s i (get_or wires n 0) z), cc)
-      go true q (no f) h ih =
+      go true q (Err f) h ih =
           let p : f ≡ e = cc in
           ((ih f refl).0, sym p ∙ (ih f refl).1)
-      go true q (yes ds) h ih = never (cc)
+      go true q (Ok ds) h ih = cc
 
   -- a driven input in front of others
   pub record Front (n : ℕ) (ns : List ℕ) (ds : List BoolWire) : Type 0 where
     pub tail : List BoolWire
-    pub is : drivers wires (map wire_number ns) ≡ yes tail
+    pub is : drivers wires (map wire_number ns) ≡ Ok tail
     pub some : get_or wires n 0 ≡ 0 → ⊥
     pub all : ds ≡ wire_of (get_or wires n 0 - 1) ∷ tail
 
-  pub front : (n : ℕ) (ns : List ℕ) (ds : List BoolWire) → drivers wires (map wire_number (n ∷ ns)) ≡ yes ds → Front n ns ds
+  pub front : (n : ℕ) (ns : List ℕ) (ds : List BoolWire) → drivers wires (map wire_number (n ∷ ns)) ≡ Ok ds → Front n ns ds
   unfolding drivers
   front n ns ds h = go (ltb 0 (get_or wires n 0)) refl (drivers wires (map wire_number ns)) refl h
     where
       go : (t : Bool) → ltb 0 (get_or wires n 0) ≡ t → (x : Try (List BoolWire)) → drivers wires (map wire_number ns) ≡ x
-          → need t NoDriver (and_then x (λ es. yes (wire_of (get_or wires n 0 - 1) ∷ es))) ≡ yes ds → Front n ns ds
-      go false q x d h = never (cc)
-      go true q (no f) d h = never (cc)
-      go true q (yes es) d h = record { tail = es; is = d; some = λ z. omega (arith, ltb-true 0 (get_or wires n 0) q); all = cc }
+          → need t NoDriver (and_then x (λ es. Ok (wire_of (get_or wires n 0 - 1) ∷ es))) ≡ Ok ds → Front n ns ds
+      go false q x d h = cc
+      go true q (Err f) d h = cc
+      go true q (Ok es) d h = record { tail = es; is = d; some = λ z. omega (arith, ltb-true 0 (get_or wires n 0) q); all = cc }
 
-  pub drivers-nil : (ds : List BoolWire) → drivers wires (map wire_number []) ≡ yes ds → ds ≡ []
+  pub drivers-nil : (ds : List BoolWire) → drivers wires (map wire_number []) ≡ Ok ds → ds ≡ []
   unfolding drivers
   drivers-nil ds h = cc
 
-  later-slots : (ns : List ℕ) (ds : List BoolWire) (i : ℕ) (s : Slots) → 2 ≤ i → drivers wires (map wire_number ns) ≡ yes ds → add_slots i s ns ≡ s
+  later-slots : (ns : List ℕ) (ds : List BoolWire) (i : ℕ) (s : Slots) → 2 ≤ i → drivers wires (map wire_number ns) ≡ Ok ds → add_slots i s ns ≡ s
   unfolding add_slots
   later-slots [] ds i s l h = refl
   later-slots (n ∷ ns) ds i s l h =
@@ -176,7 +174,7 @@ module _ (wires : List ℕ) where
       let same : add_slot s i (get_or wires n 0) ≡ s = slot_by s i (get_or wires n 0) ∙ rw (ne_eqb (get_or wires n 0) 0 f.some, ne_eqb i 0 z, ne_eqb i 1 o) in
       later-slots ns f.tail (suc i) (add_slot s i (get_or wires n 0)) (omega arith) f.is ∙ same
 
-  pub drivers-length : (ns : List ℕ) (ds : List BoolWire) → drivers wires (map wire_number ns) ≡ yes ds → length ds ≡ length ns
+  pub drivers-length : (ns : List ℕ) (ds : List BoolWire) → drivers wires (map wire_number ns) ≡ Ok ds → length ds ≡ length ns
   drivers-length [] ds h = ap length (drivers-nil ds h)
   drivers-length (n ∷ ns) ds h =
       let f = front n ns ds h in
@@ -188,7 +186,7 @@ module _ (wires : List ℕ) where
     pub second_is : wire_of (s.second - 1) ≡ get_or ds 1 no_wire
     pub all : s.undriven ≡ false
 
-  pub driven_slots : (ns : List ℕ) (ds : List BoolWire) → drivers wires (map wire_number ns) ≡ yes ds → Driven (add_slots 0 no_slots ns) ds
+  pub driven_slots : (ns : List ℕ) (ds : List BoolWire) → drivers wires (map wire_number ns) ≡ Ok ds → Driven (add_slots 0 no_slots ns) ds
   unfolding add_slots
   driven_slots [] ds h = rw (drivers-nil ds h) (record { first_is = refl; second_is = refl; all = refl })
   driven_slots (a ∷ []) ds h =
@@ -207,43 +205,43 @@ module _ (wires : List ℕ) where
 -- ---- the loop over the words
 
 -- i of n words have been read up to `at`
-pub record Got (t : List ℕ) (from end n : ℕ) (wires : List ℕ) (i at : ℕ) (slots : Slots) : Type 0 where
-  pub same : add_inputs wires i slots (take (n - i) (words_from t at end)) ≡ add_inputs wires 0 no_slots (take n (words_from t from end))
-  pub left : words_from t at end ≡ drop i (words_from t from end)
-  pub enough : i ≤ length (words_from t from end)
+pub record Got (t : List ℕ) (from n : ℕ) (wires : List ℕ) (i at : ℕ) (slots : Slots) : Type 0 where
+  pub same : add_inputs wires i slots (take (n - i) (words_from t at)) ≡ add_inputs wires 0 no_slots (take n (words_from t from))
+  pub left : words_from t at ≡ drop i (words_from t from)
+  pub enough : i ≤ length (words_from t from)
 
-pub got_start : (t : List ℕ) (from end n : ℕ) (wires : List ℕ) → Got t from end n wires 0 from no_slots
-got_start t from end n wires =
-    record { same = ap (λ (k : ℕ). add_inputs wires 0 no_slots (take k (words_from t from end))) (sub-zero n); left = refl; enough = zero-le }
+pub got_start : (t : List ℕ) (from n : ℕ) (wires : List ℕ) → Got t from n wires 0 from no_slots
+got_start t from n wires =
+    record { same = ap (λ (k : ℕ). add_inputs wires 0 no_slots (take k (words_from t from))) (sub-zero n); left = refl; enough = zero-le }
 
-module _ (t : List ℕ) (from end n : ℕ) (wires : List ℕ) (i at : ℕ) (slots : Slots) (g : Got t from end n wires i at slots) where
-  pub got_missing : i < n → words_from t at end ≡ [] → length (words_from t from end) < n
-  got_missing h e = omega (arith, ap length (sym g.left ∙ e), length-drop i (words_from t from end))
+module _ (t : List ℕ) (from n : ℕ) (wires : List ℕ) (i at : ℕ) (slots : Slots) (g : Got t from n wires i at slots) where
+  pub got_missing : i < n → words_from t at ≡ [] → length (words_from t from) < n
+  got_missing h e = omega (arith, ap length (sym g.left ∙ e), length-drop i (words_from t from))
 
-  one : i < n → (x : NextNumber) (f : First t at end x) (s : Slots) → s ≡ add_input wires slots i (parse_usize f.word)
-      → add_inputs wires (i + 1) s (take (n - (i + 1)) (words_from t x.next end)) ≡ add_inputs wires i slots (take (n - i) (words_from t at end))
+  one : i < n → (x : NextNumber) (f : First t at x) (s : Slots) → s ≡ add_input wires slots i (parse_usize f.word)
+      → add_inputs wires (i + 1) s (take (n - (i + 1)) (words_from t x.next)) ≡ add_inputs wires i slots (take (n - i) (words_from t at))
   unfolding add_inputs
   one h x f s p =
       let q : n - i ≡ suc (n - (i + 1)) = omega arith in
       rw (p, q, f.is, add-one i)
 
-  pub got_more : i < n → (x : NextNumber) → First t at end x → (s : Slots) → s ≡ add_input wires slots i (number_of x.number) → Got t from end n wires (i + 1) x.next s
+  pub got_more : i < n → (x : NextNumber) → First t at x → (s : Slots) → s ≡ add_input wires slots i (number_of x.number) → Got t from n wires (i + 1) x.next s
   got_more h x f s e =
       let p : s ≡ add_input wires slots i (parse_usize f.word) = e ∙ ap (add_input wires slots i) f.reads in
       record {
         same = one h x f s p ∙ g.same;
-        left = ap (drop 1) (sym f.is ∙ g.left) ∙ drop-drop 1 i (words_from t from end);
-        enough = omega (arith, ap length (sym g.left ∙ f.is), length-drop i (words_from t from end));
+        left = ap (drop 1) (sym f.is ∙ g.left) ∙ drop-drop 1 i (words_from t from);
+        enough = omega (arith, ap length (sym g.left ∙ f.is), length-drop i (words_from t from));
       }
 
-  pub got_end : n ≤ i → i ≤ n → from ≤ at → at ≤ end → Gathered t from end n wires slots at
+  pub got_end : n ≤ i → i ≤ n → from ≤ at → at ≤ length t → Gathered t from n wires slots at
   unfolding add_inputs
   got_end h k a b =
       let z : n - i ≡ 0 = omega arith in
       let e : i ≡ n = omega arith in
       record {
         slots_are = sym (rw z) ∙ g.same;
-        left = g.left ∙ ap (λ (j : ℕ). drop j (words_from t from end)) e;
+        left = g.left ∙ ap (λ (j : ℕ). drop j (words_from t from)) e;
         enough = omega (arith, g.enough);
         after = a;
         within = b;

@@ -1,3 +1,4 @@
+pub mod Exits
 pub mod NumberLaws
 pub mod HeaderLineLaws
 pub mod HeaderLaws

@@ -1,55 +1,51 @@
 -- Laws of a line's words read as numbers.
 -- Assumes nothing.
+use Rattle.std.specs.Prelude.{None, Option, Some}
 use Prim.Native.Nat.{ℕ, ◌+◌, ◌≤◌}
-use mathlib.Core.Path.{◌≡◌, sym, ap, ◌∙◌}
+use mathlib.Core.Path.{◌≡◌, refl, sym, ap, ◌∙◌}
 use mathlib.Core.List.{List, [], ◌∷◌}
 use mathlib.Core.Option.{none, some}
 use native.Mathlib.Omega.{arith}
+use lib.ListN.{length}
 use Rattle.laws.specs.Stretches.{stretch}
+use Rattle.laws.proofs.Stretches.{stretch_all}
 use Rattle.text.specs.declared.words.Word.{Word}
-use Rattle.text.specs.declared.numbers.Number.{Number}
-use Rattle.text.specs.declared.numbers.Number.TheVariants.{Value, Invalid}
-use Rattle.text.specs.Words.{next_word}
+use Rattle.text.specs.Words.{split_whitespace, next_word}
 use Rattle.text.specs.Numbers.{parse_usize, parse_each, number_of, and_then as then}
-use Rattle.text.proofs.WordLaws.{word_after, rest_over, rest_none, rest_next}
+use Rattle.text.proofs.WordLaws.{word_after, rest_next}
 use Rattle.bristol_rows.specs.declared.answers.NextNumber.{NextNumber}
-use Rattle.bristol_rows.specs.Promises.{words_from, NextIs}
+use Rattle.bristol_rows.specs.Promises.{words_from, First}
 
-pub next-is : (t : List ℕ) (from end : ℕ) (w : Word) (x : Number) → w ≡ next_word t from end → w.start + w.len ≤ end
-    → number_of x ≡ parse_usize (stretch t w.start w.len) → NextIs t from end (record { len = w.len; number = x; next = w.start + w.len })
-next-is t from end w x e h p = record {
-  after = omega (arith, word_after t from end w e);
+-- the words of the whole line
+pub words_whole : (l : List ℕ) → words_from l 0 ≡ split_whitespace l
+words_whole l = ap split_whitespace (stretch_all l 0 (length l) refl)
+
+pub next-is : (l : List ℕ) (from : ℕ) (w : Word) (x : Option ℕ) → w ≡ next_word l from (length l) → w.start + w.len ≤ length l → (w.len ≡ 0 → ⊥)
+    → number_of x ≡ parse_usize (stretch l w.start w.len) → First l from (record { number = x; next = w.start + w.len })
+next-is l from w x e h z p = record {
+  word = stretch l w.start w.len;
+  is = rest_next l from (length l) w e z;
+  reads = p;
+  on = omega (arith, word_after l from (length l) w e);
   within = h;
-  none = rest_none t from end w e;
-  some = λ z. record {
-    word = stretch t w.start w.len;
-    is = rest_next t from end w e z;
-    reads = p;
-    on = omega (arith, word_after t from end w e);
-  };
 }
 
-module _ (t : List ℕ) (from end : ℕ) (x : NextNumber) (f : NextIs t from end x) where
-  pub each_none : x.len ≡ 0 → parse_each (words_from t from end) ≡ some []
-  unfolding parse_each
-  each_none z = rw (f.none z)
-
-  module _ (nz : x.len ≡ 0 → ⊥) where
-    pub each_invalid : x.number ≡ Invalid → parse_each (words_from t from end) ≡ none
-    unfolding parse_each
-    each_invalid q = rw ((f.some nz).is, ← (f.some nz).reads, q)
-
-    pub each_value : (v : ℕ) → x.number ≡ Value v → parse_each (words_from t from end) ≡ then (parse_each (words_from t x.next end)) (λ ns. some (v ∷ ns))
-    unfolding parse_each
-    each_value v q = rw ((f.some nz).is, ← (f.some nz).reads, q)
-
-    -- the number of the first word
-    pub first-number : (v : ℕ) → x.number ≡ Value v → parse_usize (f.some nz).word ≡ some v
-    first-number v q = sym (f.some nz).reads ∙ ap number_of q
-
-    pub first_invalid : x.number ≡ Invalid → parse_usize (f.some nz).word ≡ none
-    first_invalid q = sym (f.some nz).reads ∙ ap number_of q
-
-pub each_over : (t : List ℕ) (at end : ℕ) → end ≤ at → parse_each (words_from t at end) ≡ some []
+pub each_none : (l : List ℕ) (from : ℕ) → words_from l from ≡ [] → parse_each (words_from l from) ≡ some []
 unfolding parse_each
-each_over t at end h = rw (rest_over t at end h)
+each_none l from e = rw e
+
+module _ (l : List ℕ) (from : ℕ) (x : NextNumber) (f : First l from x) where
+  pub each_invalid : x.number ≡ None → parse_each (words_from l from) ≡ none
+  unfolding parse_each
+  each_invalid q = rw (f.is, ← f.reads, q)
+
+  pub each_value : (v : ℕ) → x.number ≡ Some v → parse_each (words_from l from) ≡ then (parse_each (words_from l x.next)) (λ ns. some (v ∷ ns))
+  unfolding parse_each
+  each_value v q = rw (f.is, ← f.reads, q)
+
+  -- the number of the first word
+  pub first-number : (v : ℕ) → x.number ≡ Some v → parse_usize f.word ≡ some v
+  first-number v q = sym f.reads ∙ ap number_of q
+
+  pub first_invalid : x.number ≡ None → parse_usize f.word ≡ none
+  first_invalid q = sym f.reads ∙ ap number_of q

@@ -1,5 +1,6 @@
 -- Laws of a row's words after its input wires, and of its arities.
 -- Assumes nothing.
+use Rattle.std.specs.Prelude.{Err, Ok}
 use Prim.Native.Nat.{ℕ, zero, suc, ◌+◌, ◌-◌, ◌≤◌, ◌<◌, ◌^◌}
 use mathlib.Core.Path.{◌≡◌, refl, sym, ap, ap₂, ◌∙◌, subst}
 use mathlib.Core.Bool.{Bool, true, false, cond}
@@ -10,35 +11,27 @@ use native.Mathlib.Omega.{arith}
 use lib.Dec.{eqb, ltb}
 use lib.ListN.{length, get_or, take, drop, length-drop}
 use lib.Seq.{length-take-le}
-use borrow.Author.Tests.{eq-eqb, ne_eqb, le-leb, lt-leb, lt-ltb, le-ltb, eqb-true, eqb-false, ltb-true, ltb-false}
+use borrow.Author.Tests.{eq-eqb, ne_eqb, le-leb, lt-leb, eqb-true, eqb-false, ltb-true, ltb-false}
 use Rattle.circuit.specs.declared.refusals.Refusal.{Refusal}
 use Rattle.circuit.specs.declared.refusals.Refusal.TheVariants.{NoDriver, WrongCount, Malformed, NotNumber, OutputOutside}
 use Rattle.circuit.specs.declared.records.WireNumber.{WireNumber}
 use Rattle.circuit.specs.declared.records.BoolWire.{BoolWire}
-use Rattle.circuit.specs.declared.records.BoolWire.TheVariants.{Const}
-use Rattle.circuit.specs.declared.records.BoolNode.{BoolNode}
-use Rattle.circuit.specs.declared.records.Name.TheVariants.{Number}
-use Rattle.circuit.specs.Refusals.{Try, no, yes, and_then, need}
-use Rattle.circuit.specs.Records.{wire_of, wire_word, no_wire}
-use Rattle.text.specs.declared.numbers.Number.{Number as Parsed}
-use Rattle.text.specs.declared.numbers.Number.TheVariants.{Value, Invalid}
-use Rattle.text.specs.Numbers.{parse_usize, parse_each, number_of, and_then as then}
+use Rattle.circuit.specs.Refusals.{Try, and_then, need}
+use Rattle.circuit.specs.Records.{wire_of, wire_word}
+use Rattle.text.specs.Numbers.{parse_usize, parse_each, and_then as then}
 use Rattle.bristol_rows.specs.declared.answers.Slots.{Slots}
-use Rattle.bristol_rows.specs.declared.answers.Made.{Made}
-use Rattle.bristol_rows.specs.declared.answers.Made.TheVariants.{Refused as MadeRefused, Alias, Table}
 use Rattle.bristol_rows.specs.declared.answers.Row.{Row}
-use Rattle.bristol_rows.specs.declared.answers.Row.TheVariants.{Refused as RowRefused, Alias as RowAlias, Cell as RowCell}
 use Rattle.bristol_rows.specs.Numbers.{or_refuse, number, each_number}
 use Rattle.bristol_rows.specs.Operation.{operation}
-use Rattle.bristol_rows.specs.Row.{wire_number, drivers, cell_node, Gate, alias, cell, gate, row_output, row_wires, row}
-use Rattle.bristol_rows.specs.Promises.{words_from, made_of, no_slots, add_inputs, Gathered, drivers_of, CellIs, RowIs, gate_by, output_by, end_by, wires_by, invalid_arity, wrong_outputs}
+use Rattle.bristol_rows.specs.Row.{wire_number, drivers, Gate, gate, row_output, row_wires, row}
+use Rattle.bristol_rows.specs.Promises.{words_from, no_slots, add_inputs, Gathered, drivers_of, RowIs, gate_by, output_by, end_by, wires_by, invalid_arity, wrong_outputs}
 use Rattle.bristol_rows.proofs.OperationLaws.{operation_no}
 use Rattle.bristol_rows.proofs.InputLaws.{inputs_invalid, inputs-slots, inputs_valid, undriven_slots, drivers-length, Driven, driven_slots}
 
-pub refused : (m : ℕ) (x : Try Gate) (e : Refusal) → x ≡ no e → RowIs m x (RowRefused e)
+pub refused : (m : ℕ) (x : Try Gate) (e : Refusal) → x ≡ Err e → RowIs m x (Err e)
 refused m x e h = record { is = sym h; fits = tt }
 
--- ---- cells
+-- ---- slots
 
 word_of : (k : ℕ) → wire_word (wire_of k) ≡ k
 word_of zero = refl
@@ -49,93 +42,34 @@ word_of (suc (suc k)) = add-two k
 pub slot_fits : (s : ℕ) (w : BoolWire) → w ≡ wire_of (s - 1) → s < 2 ^ 64 → wire_word w + 1 < 2 ^ 64
 slot_fits s w e h = omega (arith, ap wire_word e ∙ word_of (s - 1))
 
-module _ (out : WireNumber) (n t : ℕ) (slots : Slots) (w : BoolWire) (e : w ≡ wire_of (slots.first - 1)) (f : slots.first < 2 ^ 64) where
-  pub cell-one : n ≡ 1 → CellIs (cell_node out t (drivers_of n slots)) (record { kind = 2; count = 1; table = t; name = Number out; first = w; second = Const false })
-  cell-one c = record { is = rw (eq-eqb n 1 c, e); first_fits = omega (arith, slot_fits slots.first w e f); second_fits = omega arith }
-
-  pub cell_two : (n ≡ 1 → ⊥) → (v : BoolWire) → v ≡ wire_of (slots.second - 1) → slots.second < 2 ^ 64
-      → CellIs (cell_node out t (drivers_of n slots)) (record { kind = 2; count = 2; table = t; name = Number out; first = w; second = v })
-  cell_two c v ev g =
-      record { is = rw (ne_eqb n 1 c, e, ev); first_fits = omega (arith, slot_fits slots.first w e f); second_fits = omega (arith, slot_fits slots.second v ev g) }
-
--- ---- the operation
-
-first_of : (n : ℕ) (s : Slots) → get_or (drivers_of n s) 0 no_wire ≡ wire_of (s.first - 1)
-first_of n s = go (eqb n 1)
-  where
-    go : (t : Bool) → get_or (cond t (wire_of (s.first - 1) ∷ []) (wire_of (s.first - 1) ∷ wire_of (s.second - 1) ∷ [])) 0 no_wire ≡ wire_of (s.first - 1)
-    go true = refl
-    go false = refl
-
-module _ (op : List ℕ) (n : ℕ) (slots : Slots) (out : WireNumber) (k : ℕ) (m : Made) (em : made_of m ≡ operation op n) where
-  pub gate_refused : (e : Refusal) → m ≡ MadeRefused e → RowIs k (gate_by op n slots out) (RowRefused e)
-  unfolding gate_by
-  gate_refused e q = record { is = rw (← em, q); fits = tt }
-
-  pub gate_alias : out.0 < k → m ≡ Alias → (w : BoolWire) → w ≡ wire_of (slots.first - 1) → slots.first < 2 ^ 64 → RowIs k (gate_by op n slots out) (RowAlias out w)
-  unfolding gate_by
-  gate_alias h q w e f = record {
-    is = rw (← em, q, e) (ap (λ (x : BoolWire). yes (alias out x)) (sym (first_of n slots)));
-    fits = (h, slot_fits slots.first w e f);
-  }
-
-  pub gate_table : out.0 < k → (t : ℕ) → m ≡ Table t → (c : BoolNode) → CellIs (cell_node out t (drivers_of n slots)) c → RowIs k (gate_by op n slots out) (RowCell out c)
-  unfolding gate_by
-  gate_table h t q c e = record { is = rw (← em, q) (ap (λ (x : BoolNode). yes (cell out x)) e.is); fits = (h, e.first_fits, e.second_fits) }
-
--- ---- the output wire
-
-module _ (w op : List ℕ) (n : ℕ) (slots : Slots) (k : ℕ) where
-  pub output_inputs : slots.invalid ≡ true → RowIs k (output_by w op n slots k) (RowRefused NotNumber)
-  unfolding output_by
-  output_inputs v = record { is = rw v; fits = tt }
-
-  module _ (v : slots.invalid ≡ false) (x : Parsed) (ex : number_of x ≡ parse_usize w) where
-    pub output_invalid : x ≡ Invalid → RowIs k (output_by w op n slots k) (RowRefused NotNumber)
-    unfolding output_by number
-    output_invalid q = record { is = rw (v, ← ex, q); fits = tt }
-
-    module _ (out : ℕ) (q : x ≡ Value out) where
-      pub output_outside : k ≤ out → RowIs k (output_by w op n slots k) (RowRefused OutputOutside)
-      unfolding output_by number
-      output_outside h = record { is = rw (v, ← ex, q, le-ltb out k h); fits = tt }
-
-      pub output_undriven : out < k → slots.undriven ≡ true → RowIs k (output_by w op n slots k) (RowRefused NoDriver)
-      unfolding output_by number
-      output_undriven h u = record { is = rw (v, ← ex, q, lt-ltb out k h, u); fits = tt }
-
-      pub output_gate : out < k → slots.undriven ≡ false → (r : Row) → RowIs k (gate_by op n slots (wire_number out)) r → RowIs k (output_by w op n slots k) r
-      unfolding output_by number gate_by
-      output_gate h u r i = record { is = rw (v, ← ex, q, lt-ltb out k h, u) i.is; fits = i.fits }
-
 -- ---- the words after the input wires
 
 module _ (ws : List (List ℕ)) (n : ℕ) (slots : Slots) (k : ℕ) where
-  pub end_none : ws ≡ [] → RowIs k (end_by ws n slots k) (RowRefused Malformed)
+  pub end_none : ws ≡ [] → RowIs k (end_by ws n slots k) (Err Malformed)
   unfolding end_by
   end_none e = record { is = rw e; fits = tt }
 
   module _ (w : List ℕ) (us : List (List ℕ)) (e : ws ≡ w ∷ us) where
-    pub end_one : us ≡ [] → RowIs k (end_by ws n slots k) (RowRefused Malformed)
+    pub end_one : us ≡ [] → RowIs k (end_by ws n slots k) (Err Malformed)
     unfolding end_by
     end_one f = record { is = rw (e, f); fits = tt }
 
     module _ (op : List ℕ) (vs : List (List ℕ)) (f : us ≡ op ∷ vs) where
-      pub end_more : (v : List ℕ) (xs : List (List ℕ)) → vs ≡ v ∷ xs → RowIs k (end_by ws n slots k) (RowRefused Malformed)
+      pub end_more : (v : List ℕ) (xs : List (List ℕ)) → vs ≡ v ∷ xs → RowIs k (end_by ws n slots k) (Err Malformed)
       unfolding end_by
       end_more v xs g =
           let d : suc (suc (suc (length xs))) ≡ 2 → ⊥ = λ z. omega arith in
           record { is = rw (e, f, g, ne_eqb (suc (suc (suc (length xs)))) 2 d); fits = tt }
 
-      pub end_two : vs ≡ [] → (r : Row) → RowIs k (output_by w op n slots k) r → RowIs k (end_by ws n slots k) r
+      pub end_two : vs ≡ [] → (r : Try Row) → RowIs k (output_by w op n slots k) r → RowIs k (end_by ws n slots k) r
       unfolding end_by
       end_two g r i = record { is = i.is ∙ sym (rw (e, f, g)); fits = i.fits }
 
 -- ---- the slots gathered from the words are those of the definition
 
 then_same : {A B : Type 0} (x : Try A) (f g : A → Try B) → ((a : A) → f a ≡ g a) → and_then x f ≡ and_then x g
-then_same (no e) f g h = refl
-then_same (yes a) f g h = h a
+then_same (Err e) f g h = refl
+then_same (Ok a) f g h = h a
 
 parsed_length : (ws : List (List ℕ)) (ns : List ℕ) → parse_each ws ≡ some ns → length ns ≡ length ws
 unfolding parse_each
@@ -144,19 +78,16 @@ parsed_length [] ns h =
     ap length e
 parsed_length (w ∷ ws) ns h = go (parse_usize w) (parse_each ws) refl h (parsed_length ws)
   where
-    never : ◌≡◌ {A = ℕ} 0 1 → length ns ≡ suc (length ws)
-    never z = absurd (omega arith)
-
     go : (x : Option ℕ) (y : Option (List ℕ)) → parse_each ws ≡ y → then x (λ n. then y (λ ms. some (n ∷ ms))) ≡ some ns
         → ((ms : List ℕ) → parse_each ws ≡ some ms → length ms ≡ length ws) → length ns ≡ suc (length ws)
-    go none y q h ih = never (cc)
-    go (some n) none q h ih = never (cc)
+    go none y q h ih = cc
+    go (some n) none q h ih = cc
     go (some n) (some ms) q h ih =
         let e : ns ≡ n ∷ ms = cc in
         ap length e ∙ ap suc (ih ms q)
 
 op_same : (wires : List ℕ) (op : List ℕ) (ds : List BoolWire) (n : ℕ) (slots : Slots) (out : WireNumber) → Driven wires slots ds → n ≡ length ds
-    → and_then (operation op n) (λ o. yes (gate out (drivers_of n slots) o)) ≡ and_then (operation op n) (λ o. yes (gate out ds o))
+    → and_then (operation op n) (λ o. Ok (gate out (drivers_of n slots) o)) ≡ and_then (operation op n) (λ o. Ok (gate out ds o))
 op_same wires op [] n slots out d e =
     operation_no op n (λ o. gate out (drivers_of n slots) o) (λ o. gate out [] o) (λ z. omega (arith, e)) (λ z. omega (arith, e))
 op_same wires op (x ∷ []) n slots out d e = rw (e, d.first_is)
@@ -177,23 +108,23 @@ module _ (wires : List ℕ) (n : ℕ) (ws : List (List ℕ)) (slots : Slots) (e 
   output_is us = go (parse_each (take n ws)) refl
     where
       drive : (ins : List ℕ) → parse_each (take n ws) ≡ some ins → (out : ℕ) (x : Try (List BoolWire)) → drivers wires (map wire_number ins) ≡ x
-          → cond slots.undriven (no NoDriver) (and_then (operation (get_or us 1 []) n) (λ o. yes (gate (wire_number out) (drivers_of n slots) o)))
-          ≡ and_then x (λ ds. and_then (operation (get_or us 1 []) (length ins)) (λ o. yes (gate (wire_number out) ds o)))
-      drive ins q out (no f) d =
+          → cond slots.undriven (Err NoDriver) (and_then (operation (get_or us 1 []) n) (λ o. Ok (gate (wire_number out) (drivers_of n slots) o)))
+          ≡ and_then x (λ ds. and_then (operation (get_or us 1 []) (length ins)) (λ o. Ok (gate (wire_number out) ds o)))
+      drive ins q out (Err f) d =
           let u = undriven_slots wires ins 0 no_slots f d in
           let v : slots.undriven ≡ true = ap (λ (z : Slots). z.undriven) (inputs-slots wires slots (take n ws) e ins q) ∙ u.0 in
-          rw v (ap no (sym u.1))
-      drive ins q out (yes ds) d =
+          rw v (ap Err (sym u.1))
+      drive ins q out (Ok ds) d =
           let g : Driven wires slots ds = subst (λ (z : Slots). Driven wires z ds) (sym (inputs-slots wires slots (take n ws) e ins q)) (driven_slots wires ins ds d) in
           let l : length ins ≡ n = parsed_length (take n ws) ins q ∙ length-take-le n ws h in
           let m : n ≡ length ds = sym l ∙ sym (drivers-length wires ins ds d) in
           rw (g.all, l) (op_same wires (get_or us 1 []) ds n slots (wire_number out) g m)
 
       go : (x : Option (List ℕ)) → parse_each (take n ws) ≡ x
-          → cond slots.invalid (no NotNumber) (and_then (number (get_or us 0 [])) (λ out. need (ltb out (length wires)) OutputOutside
-          (cond slots.undriven (no NoDriver) (and_then (operation (get_or us 1 []) n) (λ o. yes (gate (wire_number out) (drivers_of n slots) o))))))
+          → cond slots.invalid (Err NotNumber) (and_then (number (get_or us 0 [])) (λ out. need (ltb out (length wires)) OutputOutside
+          (cond slots.undriven (Err NoDriver) (and_then (operation (get_or us 1 []) n) (λ o. Ok (gate (wire_number out) (drivers_of n slots) o))))))
           ≡ and_then (or_refuse NotNumber x) (λ ins. and_then (number (get_or us 0 [])) (λ out. need (ltb out (length wires)) OutputOutside
-          (and_then (drivers wires (map wire_number ins)) (λ ds. and_then (operation (get_or us 1 []) (length ins)) (λ o. yes (gate (wire_number out) ds o))))))
+          (and_then (drivers wires (map wire_number ins)) (λ ds. and_then (operation (get_or us 1 []) (length ins)) (λ o. Ok (gate (wire_number out) ds o))))))
       go none q = rw (inputs_invalid wires slots (take n ws) e q)
       go (some ins) q =
           rw (inputs_valid wires slots (take n ws) e ins q)
@@ -206,48 +137,32 @@ module _ (wires : List ℕ) (n : ℕ) (ws : List (List ℕ)) (slots : Slots) (e 
       (same_test (length (drop n ws)) 2 (length ws) (n + 2) (λ z. omega (arith, length-drop n ws)) (λ z. omega (arith, length-drop n ws)))
       (output_is (drop n ws))
 
-pub wires_missing : (wires : List ℕ) (n : ℕ) (ws : List (List ℕ)) (k : ℕ) → length ws < n → RowIs k (wires_by wires n ws) (RowRefused Malformed)
+pub wires_missing : (wires : List ℕ) (n : ℕ) (ws : List (List ℕ)) (k : ℕ) → length ws < n → RowIs k (wires_by wires n ws) (Err Malformed)
 unfolding wires_by
 wires_missing wires n ws k h = record { is = rw (ne_eqb (length ws) (n + 2) (λ z. omega arith)); fits = tt }
 
-pub wires_end : (t : List ℕ) (from end n : ℕ) (wires : List ℕ) (slots : Slots) (next : ℕ) → Gathered t from end n wires slots next → (r : Row)
-    → RowIs (length wires) (end_by (words_from t next end) n slots (length wires)) r → RowIs (length wires) (wires_by wires n (words_from t from end)) r
-wires_end t from end n wires slots next g r i = record {
-  is = i.is ∙ ap (λ (l : List (List ℕ)). end_by l n slots (length wires)) g.left ∙ end_is wires n (words_from t from end) slots g.slots_are g.enough;
+pub wires_end : (t : List ℕ) (from n : ℕ) (wires : List ℕ) (slots : Slots) (next : ℕ) → Gathered t from n wires slots next → (r : Try Row)
+    → RowIs (length wires) (end_by (words_from t next) n slots (length wires)) r → RowIs (length wires) (wires_by wires n (words_from t from)) r
+wires_end t from n wires slots next g r i = record {
+  is = i.is ∙ ap (λ (l : List (List ℕ)). end_by l n slots (length wires)) g.left ∙ end_is wires n (words_from t from) slots g.slots_are g.enough;
   fits = i.fits;
 }
 
 -- ---- the arities
 
-pub arity_few : (least : ℕ) (ws : List (List ℕ)) → length ws < least → RowRefused Malformed ≡ invalid_arity least ws
-arity_few least ws h = rw (lt-ltb (length ws) least h)
-
-pub arity_number : (least : ℕ) (ws : List (List ℕ)) → least ≤ length ws → RowRefused NotNumber ≡ invalid_arity least ws
-arity_number least ws h = rw (le-ltb (length ws) least h)
-
-module _ (n m : ℕ) (ws : List (List ℕ)) where
-  pub outputs_few : length ws < 2 → RowRefused Malformed ≡ wrong_outputs n m ws
-  outputs_few h = rw (lt-ltb (length ws) 2 h)
-
-  pub outputs_width : 2 ≤ length ws → (length ws ≡ n + m + 1 → ⊥) → RowRefused Malformed ≡ wrong_outputs n m ws
-  outputs_width h d = rw (le-ltb (length ws) 2 h, ne_eqb (length ws) (n + m + 1) d)
-
-  pub outputs_count : 2 ≤ length ws → length ws ≡ n + m + 1 → RowRefused WrongCount ≡ wrong_outputs n m ws
-  outputs_count h d = rw (le-ltb (length ws) 2 h, eq-eqb (length ws) (n + m + 1) d)
-
-pub row-none : (wires : List ℕ) (m : ℕ) (ws : List (List ℕ)) → ws ≡ [] → RowIs m (row wires ws) (RowRefused Malformed)
+pub row-none : (wires : List ℕ) (m : ℕ) (ws : List (List ℕ)) → ws ≡ [] → RowIs m (row wires ws) (Err Malformed)
 unfolding row
 row-none wires m ws e = record { is = rw e; fits = tt }
 
-pub row_one : (wires : List ℕ) (m : ℕ) (a : List ℕ) (ws : List (List ℕ)) → ws ≡ [] → RowIs m (row wires (a ∷ ws)) (RowRefused Malformed)
+pub row_one : (wires : List ℕ) (m : ℕ) (a : List ℕ) (ws : List (List ℕ)) → ws ≡ [] → RowIs m (row wires (a ∷ ws)) (Err Malformed)
 unfolding row
 row_one wires m a ws e = record { is = rw e; fits = tt }
 
-pub row-first_invalid : (wires : List ℕ) (m : ℕ) (a : List ℕ) (us : List (List ℕ)) → parse_usize a ≡ none → RowIs m (row wires (a ∷ us)) (invalid_arity 3 us)
+pub row-first_invalid : (wires : List ℕ) (m : ℕ) (a : List ℕ) (us : List (List ℕ)) → parse_usize a ≡ none → RowIs m (row wires (a ∷ us)) (Err (invalid_arity 3 us))
 unfolding row number
 row-first_invalid wires m a us e = go (ltb (length us) 3) refl
   where
-    go : (t : Bool) → ltb (length us) 3 ≡ t → RowIs m (row wires (a ∷ us)) (cond t (RowRefused Malformed) (RowRefused NotNumber))
+    go : (t : Bool) → ltb (length us) 3 ≡ t → RowIs m (row wires (a ∷ us)) (Err (cond t Malformed NotNumber))
     go true q =
         let l : suc (length us) < 4 = omega (arith, ltb-true (length us) 3 q) in
         record { is = rw (lt-leb 4 (suc (length us)) l); fits = tt }
@@ -256,11 +171,11 @@ row-first_invalid wires m a us e = go (ltb (length us) 3) refl
         record { is = rw (le-leb 4 (suc (length us)) l, e); fits = tt }
 
 module _ (wires : List ℕ) (m : ℕ) (a b : List ℕ) (us : List (List ℕ)) (i : ℕ) (p : parse_usize a ≡ some i) where
-  pub row_second_invalid : parse_usize b ≡ none → RowIs m (row wires (a ∷ b ∷ us)) (invalid_arity 2 us)
+  pub row_second_invalid : parse_usize b ≡ none → RowIs m (row wires (a ∷ b ∷ us)) (Err (invalid_arity 2 us))
   unfolding row number
   row_second_invalid e = go (ltb (length us) 2) refl
     where
-      go : (t : Bool) → ltb (length us) 2 ≡ t → RowIs m (row wires (a ∷ b ∷ us)) (cond t (RowRefused Malformed) (RowRefused NotNumber))
+      go : (t : Bool) → ltb (length us) 2 ≡ t → RowIs m (row wires (a ∷ b ∷ us)) (Err (cond t Malformed NotNumber))
       go true q =
           let l : suc (suc (length us)) < 4 = omega (arith, ltb-true (length us) 2 q) in
           record { is = rw (lt-leb 4 (suc (suc (length us))) l); fits = tt }
@@ -269,7 +184,7 @@ module _ (wires : List ℕ) (m : ℕ) (a b : List ℕ) (us : List (List ℕ)) (i
           record { is = rw (le-leb 4 (suc (suc (length us))) l, p, e); fits = tt }
 
   module _ (o : ℕ) (q : parse_usize b ≡ some o) where
-    few : length us < 2 → row wires (a ∷ b ∷ us) ≡ no Malformed
+    few : length us < 2 → row wires (a ∷ b ∷ us) ≡ Err Malformed
     unfolding row
     few h =
         let l : suc (suc (length us)) < 4 = omega arith in
@@ -281,7 +196,7 @@ module _ (wires : List ℕ) (m : ℕ) (a b : List ℕ) (us : List (List ℕ)) (i
         let l : 4 ≤ suc (suc (length us)) = omega arith in
         rw (le-leb 4 (suc (suc (length us))) l, p, q)
 
-    wrong : 2 ≤ length us → (length us ≡ i + o + 1 → ⊥) → row wires (a ∷ b ∷ us) ≡ no Malformed
+    wrong : 2 ≤ length us → (length us ≡ i + o + 1 → ⊥) → row wires (a ∷ b ∷ us) ≡ Err Malformed
     wrong h d =
         let n : suc (suc (length us)) ≡ 2 + i + o + 1 → ⊥ = λ z. d (omega arith) in
         opened h ∙ rw (ne_eqb (suc (suc (length us))) (2 + i + o + 1) n)
@@ -291,11 +206,11 @@ module _ (wires : List ℕ) (m : ℕ) (a b : List ℕ) (us : List (List ℕ)) (i
         let n : suc (suc (length us)) ≡ 2 + i + o + 1 = omega arith in
         opened h ∙ rw (eq-eqb (suc (suc (length us))) (2 + i + o + 1) n)
 
-    pub row-outputs : (o ≡ 1 → ⊥) → RowIs m (row wires (a ∷ b ∷ us)) (wrong_outputs i o us)
+    pub row-outputs : (o ≡ 1 → ⊥) → RowIs m (row wires (a ∷ b ∷ us)) (Err (wrong_outputs i o us))
     row-outputs d = go (ltb (length us) 2) refl (eqb (length us) (i + o + 1)) refl
       where
         go : (t : Bool) → ltb (length us) 2 ≡ t → (u : Bool) → eqb (length us) (i + o + 1) ≡ u
-            → RowIs m (row wires (a ∷ b ∷ us)) (cond t (RowRefused Malformed) (cond u (RowRefused WrongCount) (RowRefused Malformed)))
+            → RowIs m (row wires (a ∷ b ∷ us)) (Err (cond t Malformed (cond u WrongCount Malformed)))
         go true e u f = refused m _ Malformed (few (omega (arith, ltb-true (length us) 2 e)))
         go false e true f =
             refused m _ WrongCount (right (omega (arith, ltb-false (length us) 2 e)) (eqb-true (length us) (i + o + 1) f) ∙ rw (ne_eqb o 1 d))
@@ -313,15 +228,15 @@ module _ (wires : List ℕ) (m : ℕ) (a b : List ℕ) (us : List (List ℕ)) (i
             sym (right (omega (arith, ltb-false (length us) 2 e)) z ∙ rw (eq-eqb o 1 d))
         go false e false f = sym (wrong (omega (arith, ltb-false (length us) 2 e)) (λ z. eqb-false (length us) (i + 2) f (omega arith)))
 
-    pub row-wires : o ≡ 1 → (r : Row) → RowIs m (wires_by wires i us) r → RowIs m (row wires (a ∷ b ∷ us)) r
+    pub row-wires : o ≡ 1 → (r : Try Row) → RowIs m (wires_by wires i us) r → RowIs m (row wires (a ∷ b ∷ us)) r
     row-wires d r x = record { is = x.is ∙ one_output d; fits = x.fits }
 
 -- the words by the first of them
-pub row_by : (wires : List ℕ) (m : ℕ) (a : List ℕ) (ws us : List (List ℕ)) → ws ≡ a ∷ us → (r : Row) → RowIs m (row wires (a ∷ us)) r → RowIs m (row wires ws) r
+pub row_by : (wires : List ℕ) (m : ℕ) (a : List ℕ) (ws us : List (List ℕ)) → ws ≡ a ∷ us → (r : Try Row) → RowIs m (row wires (a ∷ us)) r → RowIs m (row wires ws) r
 row_by wires m a ws us e r x = record { is = x.is ∙ ap (row wires) (sym e); fits = x.fits }
 
-pub row-by_two : (wires : List ℕ) (m : ℕ) (a b : List ℕ) (ws us : List (List ℕ)) → ws ≡ b ∷ us → (r : Row) → RowIs m (row wires (a ∷ b ∷ us)) r → RowIs m (row wires (a ∷ ws)) r
+pub row-by_two : (wires : List ℕ) (m : ℕ) (a b : List ℕ) (ws us : List (List ℕ)) → ws ≡ b ∷ us → (r : Try Row) → RowIs m (row wires (a ∷ b ∷ us)) r → RowIs m (row wires (a ∷ ws)) r
 row-by_two wires m a b ws us e r x = record { is = x.is ∙ ap (λ (l : List (List ℕ)). row wires (a ∷ l)) (sym e); fits = x.fits }
 
-pub told : (m : ℕ) (x : Try Gate) (r s : Row) → r ≡ s → RowIs m x s → RowIs m x r
-told m x r s e h = subst (λ (z : Row). RowIs m x z) (sym e) h
+pub told : (m : ℕ) (x : Try Gate) (e f : Refusal) → e ≡ f → RowIs m x (Err f) → RowIs m x (Err e)
+told m x e f q h = subst (λ (z : Refusal). RowIs m x (Err z)) (sym q) h

@@ -1,8 +1,8 @@
 -- The operations of gate rows.
 -- Assumes nothing.
-use Rattle.std.specs.Prelude.{ℕ, Bool, cond, ◌||◌, List, [], ◌∷◌, eqb}
+use Rattle.std.specs.Prelude.{ℕ, Bool, cond, ◌||◌, List, [], ◌∷◌, eqb, Err, Ok}
 use Rattle.circuit.specs.declared.refusals.Refusal.TheVariants.{WrongCount, Unknown}
-use Rattle.circuit.specs.Refusals.{Try, no, yes, and_then, need}
+use Rattle.circuit.specs.Refusals.{Try, and_then, need}
 use Rattle.text.specs.Bytes.{is_named}
 
 -- "EQ, EQW, BUF", "Letters in any case."
@@ -16,20 +16,20 @@ inverts w = is_named w (73 ∷ 78 ∷ 86 ∷ []) || is_named w (78 ∷ 79 ∷ 84
 -- "AND 8, NAND 7, OR 14, NOR 1, XOR 6, XNOR 9": "the six above of two, else 8"
 unfoldable pub two_input_table : List ℕ → Try ℕ
 two_input_table w =
-    cond (is_named w (65 ∷ 78 ∷ 68 ∷ [])) (yes 8)
-    (cond (is_named w (78 ∷ 65 ∷ 78 ∷ 68 ∷ [])) (yes 7)
-    (cond (is_named w (79 ∷ 82 ∷ [])) (yes 14)
-    (cond (is_named w (78 ∷ 79 ∷ 82 ∷ [])) (yes 1)
-    (cond (is_named w (88 ∷ 79 ∷ 82 ∷ [])) (yes 6)
-    (cond (is_named w (88 ∷ 78 ∷ 79 ∷ 82 ∷ [])) (yes 9)
-    (no Unknown))))))
+    cond (is_named w (65 ∷ 78 ∷ 68 ∷ [])) (Ok 8)
+    (cond (is_named w (78 ∷ 65 ∷ 78 ∷ 68 ∷ [])) (Ok 7)
+    (cond (is_named w (79 ∷ 82 ∷ [])) (Ok 14)
+    (cond (is_named w (78 ∷ 79 ∷ 82 ∷ [])) (Ok 1)
+    (cond (is_named w (88 ∷ 79 ∷ 82 ∷ [])) (Ok 6)
+    (cond (is_named w (88 ∷ 78 ∷ 79 ∷ 82 ∷ [])) (Ok 9)
+    (Err Unknown))))))
 
 -- `bristol_truth_table`: "INV, NOT of one, the six above of two, else 8"; "NOT 1"
 unfoldable pub truth_table : List ℕ → ℕ → Try ℕ
 truth_table w inputs =
-    cond (eqb inputs 1) (need (inverts w) Unknown (yes 1))
+    cond (eqb inputs 1) (need (inverts w) Unknown (Ok 1))
     (cond (eqb inputs 2) (two_input_table w)
-    (no Unknown))
+    (Err Unknown))
 
 -- the value of the input, or a table
 pub data Op : Type 0 where
@@ -38,4 +38,4 @@ pub data Op : Type 0 where
 
 -- "EQ, EQW, BUF with one input alias, else 6"
 unfoldable pub operation : List ℕ → ℕ → Try Op
-operation w inputs = cond (is_alias w) (need (eqb inputs 1) WrongCount (yes same)) (and_then (truth_table w inputs) (λ t. yes (table t)))
+operation w inputs = cond (is_alias w) (need (eqb inputs 1) WrongCount (Ok same)) (and_then (truth_table w inputs) (λ t. Ok (table t)))

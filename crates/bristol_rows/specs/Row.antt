@@ -1,12 +1,12 @@
 -- A gate row: what it makes of its output wire, by the wires driven so far.
 -- Assumes nothing.
-use Rattle.std.specs.Prelude.{ℕ, ◌+◌, ◌-◌, List, [], ◌∷◌, map, eqb, leb, ltb, length, get_or, take, drop}
+use Rattle.std.specs.Prelude.{ℕ, ◌+◌, ◌-◌, List, [], ◌∷◌, map, eqb, leb, ltb, length, get_or, take, drop, Ok}
 use Rattle.circuit.specs.declared.refusals.Refusal.TheVariants.{NoDriver, WrongCount, Malformed, OutputOutside}
 use Rattle.circuit.specs.declared.records.WireNumber.{WireNumber}
 use Rattle.circuit.specs.declared.records.BoolWire.{BoolWire}
 use Rattle.circuit.specs.declared.records.BoolNode.{BoolNode}
 use Rattle.circuit.specs.declared.records.Name.TheVariants.{Number}
-use Rattle.circuit.specs.Refusals.{Try, yes, and_then, need}
+use Rattle.circuit.specs.Refusals.{Try, and_then, need}
 use Rattle.circuit.specs.Records.{wire_of, no_wire}
 use Rattle.bristol_rows.specs.Numbers.{number, each_number}
 use Rattle.bristol_rows.specs.Operation.{Op, same, table, operation}
@@ -21,8 +21,8 @@ slot_of wires w = get_or wires w.0 0
 
 -- "undefined input 5": the circuit's wires that drive these wires of the file
 unfoldable pub drivers : List ℕ → List WireNumber → Try (List BoolWire)
-drivers wires [] = yes []
-drivers wires (w ∷ ws) = need (ltb 0 (slot_of wires w)) NoDriver (and_then (drivers wires ws) (λ ds. yes (wire_of (slot_of wires w - 1) ∷ ds)))
+drivers wires [] = Ok []
+drivers wires (w ∷ ws) = need (ltb 0 (slot_of wires w)) NoDriver (and_then (drivers wires ws) (λ ds. Ok (wire_of (slot_of wires w - 1) ∷ ds)))
 
 -- what a row makes of its output wire: another name of a wire of the circuit, or a cell
 pub data Gate : Type 0 where
@@ -42,7 +42,7 @@ unfoldable pub row_output : List ℕ → List ℕ → List (List ℕ) → Try Ga
 row_output wires ins ws =
     and_then (number (get_or ws 0 [])) (λ out. need (ltb out (length wires)) OutputOutside
     (and_then (drivers wires (map wire_number ins)) (λ ds. and_then (operation (get_or ws 1 []) (length ins)) (λ op.
-    yes (gate (wire_number out) ds op)))))
+    Ok (gate (wire_number out) ds op)))))
 
 -- "input wires 12": the words after the arities, of a row with this many inputs and one output
 unfoldable pub row_wires : List ℕ → ℕ → List (List ℕ) → Try Gate

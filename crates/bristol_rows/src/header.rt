@@ -1,192 +1,129 @@
 // The three lines of the header.
-ghost use Rattle.std.specs.Prelude.{◌≡◌, ◌+◌, ◌≤◌, length};
+ghost use Rattle.std.specs.Prelude.{◌≡◌, ◌+◌, ◌≤◌, length, Some};
 ghost use Rattle.laws.specs.Stretches.{stretch};
+ghost use Rattle.text.specs.Words.{split_whitespace};
 ghost use Rattle.text.specs.Numbers.{parse_each};
 ghost use Rattle.bristol_rows.specs.Header.{group_lines};
 ghost use Rattle.bristol_rows.specs.Promises.{words_from, add_to, widths_of, group_of, counts_after, counts_of, HeadIs, HeaderIs};
 
-use crate::answers::{Counts, Group, Head, Header, Sum, Widths};
+use crate::answers::{Counts, Head, Header, Widths};
 use crate::numbers::next_number;
 use circuit::refusals::Refusal;
 use text::lines::{Line, next_line};
-use text::numbers::Number;
 
-// A sum and one number more.
-pub fn add_to(s: Sum, n: usize, limit: usize) -> Sum
-    ensures { result ≡ add_to limit s n }
+// A sum and one number more; none where one of them is above the limit.
+pub fn add_to(sum: Option<usize>, n: usize, limit: usize) -> Option<usize>
+    ensures { result ≡ add_to limit sum n }
 {
-    match s {
-        Sum::Over => Sum::Over,
-        Sum::Is(a) => {
-            if limit < a {
-                return Sum::Over;
-            }
-            if limit - a < n {
-                return Sum::Over;
-            }
-            Sum::Is(a + n)
-        }
-    }
+    let more = sum?.checked_add(n)?;
+    if more <= limit { Some(more) } else { None }
 }
 
 // The numbers of a line's rest: how many, and their sum.
-pub fn read_widths(text: &[u8], from: usize, end: usize, limit: usize) -> Widths
-    requires { (from ≤ end) × (end ≤ length text.now) }
-    ensures { result ≡ widths_of limit 0 (Sum.Is 0) (parse_each (words_from text.now from end)) }
+pub fn read_widths(line: &[u8], from: usize, limit: usize) -> Result<Widths, Refusal>
+    requires { from ≤ length line.now }
+    ensures { result ≡ widths_of limit 0 (Some 0) (parse_each (words_from line.now from)) }
 {
     let mut at = from;
     let mut count = 0;
-    let mut sum = Sum::Is(0);
-    while at < end {
-        let x = next_number(text, at, end);
-        if x.len == 0 {
-            return Widths::Are { count, sum };
-        }
-        let number = x.number;
-        let Number::Value(v) = number else {
-            return Widths::Invalid;
-        };
-        sum = add_to(sum, v, limit);
+    let mut sum = Some(0);
+    // No range: each number says where the next one may start.
+    while let Some(x) = next_number(line, at) {
+        sum = add_to(sum, x.number.ok_or(Refusal::NotNumber)?, limit);
         count += 1;
         at = x.next;
     }
-    Widths::Are { count, sum }
+    Ok(Widths { count, sum })
 }
 
-// A group line: the number of groups, and their widths, whose sum is at most the limit.
-pub fn grouped_wire_count(text: &[u8], from: usize, end: usize, limit: usize) -> Group
-    requires { (from ≤ end) × (end ≤ length text.now) }
-    ensures { result ≡ group_of limit (parse_each (words_from text.now from end)) }
+// A group line: the number of groups, and their widths: their sum, if they are so many and it is at most the limit.
+pub fn grouped_wire_count(line: &[u8], limit: usize) -> Result<Option<usize>, Refusal>
+    ensures { result ≡ group_of limit (parse_each (split_whitespace line.now)) }
 {
-    let x = next_number(text, from, end);
-    if x.len == 0 {
-        return Group::Mismatch;
-    }
-    let number = x.number;
-    let Number::Value(groups) = number else {
-        return Group::Invalid;
+    let Some(x) = next_number(line, 0) else {
+        return Ok(None);
     };
-    let next = x.next;
-    let ws = read_widths(text, next, end, limit);
-    let Widths::Are { count, sum } = ws else {
-        return Group::Invalid;
-    };
-    if groups != count {
-        return Group::Mismatch;
-    }
-    let Sum::Is(total) = sum else {
-        return Group::Mismatch;
-    };
-    Group::Total(total)
+    let groups = x.number.ok_or(Refusal::NotNumber)?;
+    let widths = read_widths(line, x.next, limit)?;
+    Ok(if groups == widths.count {
+        widths.sum
+    } else {
+        None
+    })
 }
 
 // The first line, after the number of gates.
-pub fn read_wires(text: &[u8], from: usize, end: usize, gates: usize) -> Counts
-    requires { (from ≤ end) × (end ≤ length text.now) }
-    ensures { result ≡ counts_after gates (parse_each (words_from text.now from end)) }
+pub fn read_wires(line: &[u8], from: usize, gates: usize) -> Result<Counts, Refusal>
+    requires { from ≤ length line.now }
+    ensures { result ≡ counts_after gates (parse_each (words_from line.now from)) }
 {
-    let x = next_number(text, from, end);
-    if x.len == 0 {
-        return Counts::Refused(Refusal::Malformed);
+    let x = next_number(line, from).ok_or(Refusal::Malformed)?;
+    let wires = x.number.ok_or(Refusal::NotNumber)?;
+    let more = read_widths(line, x.next, 0)?;
+    if more.count != 0 {
+        return Err(Refusal::Malformed);
     }
-    let number = x.number;
-    let Number::Value(wires) = number else {
-        return Counts::Refused(Refusal::NotNumber);
-    };
-    let next = x.next;
-    let ws = read_widths(text, next, end, 0);
-    let Widths::Are { count, sum: _ } = ws else {
-        return Counts::Refused(Refusal::NotNumber);
-    };
-    if count != 0 {
-        return Counts::Refused(Refusal::Malformed);
-    }
-    Counts::Are { gates, wires }
+    Ok(Counts { gates, wires })
 }
 
 // The first line: two numbers.
-pub fn read_counts(text: &[u8], from: usize, end: usize) -> Counts
-    requires { (from ≤ end) × (end ≤ length text.now) }
-    ensures { result ≡ counts_of (parse_each (words_from text.now from end)) }
+pub fn read_counts(line: &[u8]) -> Result<Counts, Refusal>
+    ensures { result ≡ counts_of (parse_each (split_whitespace line.now)) }
 {
-    let x = next_number(text, from, end);
-    if x.len == 0 {
-        return Counts::Refused(Refusal::Malformed);
-    }
-    let number = x.number;
-    let Number::Value(gates) = number else {
-        return Counts::Refused(Refusal::NotNumber);
-    };
-    let next = x.next;
-    read_wires(text, next, end, gates)
+    let x = next_number(line, 0).ok_or(Refusal::Malformed)?;
+    let gates = x.number.ok_or(Refusal::NotNumber)?;
+    read_wires(line, x.next, gates)
 }
 
 // The group lines, once the counts are known; `rest` is where the rows begin.
-pub fn read_groups(text: &[u8], b: Line, c: Line, gates: usize, wires: usize) -> Header
-    requires { (b.start + b.len ≤ length text.now) × (c.start + c.len ≤ length text.now) }
-    ensures { HeadIs (group_lines gates wires (stretch text.now b.start b.len) (stretch text.now c.start c.len)) c.next result }
+pub fn read_groups(
+    b: &[u8],
+    c: &[u8],
+    gates: usize,
+    wires: usize,
+    rest: usize,
+) -> Result<Header, Refusal>
+    ensures { HeadIs (group_lines gates wires b.now c.now) rest result }
 {
-    let inputs_from = b.start;
-    let inputs_end = b.start + b.len;
-    let outputs_from = c.start;
-    let outputs_end = c.start + c.len;
-    let rest = c.next;
-    let i = grouped_wire_count(text, inputs_from, inputs_end, wires);
-    match i {
-        Group::Invalid => Header::Refused(Refusal::NotNumber),
-        Group::Mismatch => {
-            let o = grouped_wire_count(text, outputs_from, outputs_end, wires);
-            match o {
-                Group::Invalid => Header::Refused(Refusal::NotNumber),
-                Group::Mismatch => Header::Refused(Refusal::HeaderMismatch),
-                Group::Total(_) => Header::Refused(Refusal::HeaderMismatch),
-            }
-        }
-        Group::Total(inputs) => {
-            if wires < inputs {
-                return Header::Refused(Refusal::HeaderMismatch);
-            }
-            let o = grouped_wire_count(text, outputs_from, outputs_end, wires - inputs);
-            match o {
-                Group::Invalid => Header::Refused(Refusal::NotNumber),
-                Group::Mismatch => Header::Refused(Refusal::HeaderMismatch),
-                Group::Total(outputs) => Header::Is {
-                    head: Head {
-                        gates,
-                        wires,
-                        inputs,
-                        outputs,
-                    },
-                    rest,
-                },
-            }
-        }
-    }
+    let inputs = grouped_wire_count(b, wires)?;
+    let outputs = grouped_wire_count(c, wires - inputs.unwrap_or(0))?;
+    let (Some(inputs), Some(outputs)) = (inputs, outputs) else {
+        return Err(Refusal::HeaderMismatch);
+    };
+    let head = Head {
+        gates,
+        wires,
+        inputs,
+        outputs,
+    };
+    Ok(Header { head, rest })
+}
+
+// The bytes of a line of a text.
+#[tactic(auto, unfolding(laws::specs::Stretches::stretch))]
+pub fn line_bytes(text: &[u8], line: Line) -> &[u8]
+    requires { line.start + line.len ≤ length text.now }
+    ensures { result.now ≡ stretch text.now line.start line.len }
+{
+    &text[line.start..line.start + line.len]
 }
 
 // The header of a text.
-pub fn read_header(text: &[u8]) -> Header
+pub fn read_header(text: &[u8]) -> Result<Header, Refusal>
     ensures { HeaderIs text.now result }
 {
     let a = next_line(text, 0);
-    let a_next = a.next;
-    let b = next_line(text, a_next);
-    let b_next = b.next;
-    let c = next_line(text, b_next);
-    if a.len == 0 {
-        return Header::Refused(Refusal::Malformed);
+    let b = next_line(text, a.next);
+    let c = next_line(text, b.next);
+    if a.len == 0 || b.len == 0 || c.len == 0 {
+        return Err(Refusal::Malformed);
     }
-    if b.len == 0 {
-        return Header::Refused(Refusal::Malformed);
-    }
-    if c.len == 0 {
-        return Header::Refused(Refusal::Malformed);
-    }
-    let start = a.start;
-    let end = a.start + a.len;
-    let n = read_counts(text, start, end);
-    match n {
-        Counts::Refused(e) => Header::Refused(e),
-        Counts::Are { gates, wires } => read_groups(text, b, c, gates, wires),
-    }
+    let Counts { gates, wires } = read_counts(line_bytes(text, a))?;
+    read_groups(
+        line_bytes(text, b),
+        line_bytes(text, c),
+        gates,
+        wires,
+        c.next,
+    )
 }

@@ -6,18 +6,17 @@ use crate::answers::NextNumber;
 use text::numbers::parse_usize;
 use text::words::next_word;
 
-// The next word between two places, as a number.
-pub fn next_number(text: &[u8], from: usize, end: usize) -> NextNumber
-    requires { (from ≤ end) × (end ≤ length text.now) }
-    ensures { NextIs text.now from end result }
+// The next word of a line from a place on, as a number.
+pub fn next_number(line: &[u8], from: usize) -> Option<NextNumber>
+    requires { from ≤ length line.now }
+    ensures { NextIs line.now from result }
 {
-    let w = next_word(text, from, end);
-    let start = w.start;
-    let len = w.len;
-    let number = parse_usize(text, start, len);
-    NextNumber {
-        len,
-        number,
-        next: start + len,
+    let word = next_word(line, from, line.len());
+    if word.len == 0 {
+        return None;
     }
+    Some(NextNumber {
+        number: parse_usize(line, word),
+        next: word.start + word.len,
+    })
 }

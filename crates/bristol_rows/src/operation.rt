@@ -2,89 +2,78 @@
 ghost use Rattle.std.specs.Prelude.{◌≡◌, ◌+◌, ◌≤◌, length};
 ghost use Rattle.laws.specs.Stretches.{stretch};
 ghost use Rattle.bristol_rows.specs.Operation.{is_alias, inverts, two_input_table, truth_table, operation};
-ghost use Rattle.bristol_rows.specs.Promises.{made_of, table_try};
+ghost use Rattle.bristol_rows.specs.Promises.{made_of};
 
 use crate::answers::Made;
 use circuit::refusals::Refusal;
 use text::bytes::is_named;
+use text::words::Word;
 
 // EQ, EQW, BUF.
-pub fn is_alias(text: &[u8], start: usize, len: usize) -> bool
-    requires { start + len ≤ length text.now }
-    ensures { result ≡ is_alias (stretch text.now start len) }
+#[tactic(auto, unfolding(crate::specs::Operation::is_alias))]
+pub fn is_alias(text: &[u8], word: Word) -> bool
+    requires { word.start + word.len ≤ length text.now }
+    ensures { result ≡ is_alias (stretch text.now word.start word.len) }
 {
-    if is_named(text, start, len, b"EQ") {
-        return true;
-    }
-    if is_named(text, start, len, b"EQW") {
-        return true;
-    }
-    is_named(text, start, len, b"BUF")
+    is_named(text, word, b"EQ") || is_named(text, word, b"EQW") || is_named(text, word, b"BUF")
 }
 
 // INV, NOT.
-pub fn is_inverter(text: &[u8], start: usize, len: usize) -> bool
-    requires { start + len ≤ length text.now }
-    ensures { result ≡ inverts (stretch text.now start len) }
+#[tactic(auto, unfolding(crate::specs::Operation::inverts))]
+pub fn is_inverter(text: &[u8], word: Word) -> bool
+    requires { word.start + word.len ≤ length text.now }
+    ensures { result ≡ inverts (stretch text.now word.start word.len) }
 {
-    if is_named(text, start, len, b"INV") {
-        return true;
-    }
-    is_named(text, start, len, b"NOT")
+    is_named(text, word, b"INV") || is_named(text, word, b"NOT")
 }
 
-pub fn two_input_table(text: &[u8], start: usize, len: usize) -> Made
-    requires { start + len ≤ length text.now }
-    ensures { made_of result ≡ table_try (two_input_table (stretch text.now start len)) }
+#[tactic(auto, unfolding(crate::specs::Operation::two_input_table))]
+pub fn two_input_table(text: &[u8], word: Word) -> Result<usize, Refusal>
+    requires { word.start + word.len ≤ length text.now }
+    ensures { result ≡ two_input_table (stretch text.now word.start word.len) }
 {
-    if is_named(text, start, len, b"AND") {
-        return Made::Table(8);
+    if is_named(text, word, b"AND") {
+        Ok(8)
+    } else if is_named(text, word, b"NAND") {
+        Ok(7)
+    } else if is_named(text, word, b"OR") {
+        Ok(14)
+    } else if is_named(text, word, b"NOR") {
+        Ok(1)
+    } else if is_named(text, word, b"XOR") {
+        Ok(6)
+    } else if is_named(text, word, b"XNOR") {
+        Ok(9)
+    } else {
+        Err(Refusal::Unknown)
     }
-    if is_named(text, start, len, b"NAND") {
-        return Made::Table(7);
-    }
-    if is_named(text, start, len, b"OR") {
-        return Made::Table(14);
-    }
-    if is_named(text, start, len, b"NOR") {
-        return Made::Table(1);
-    }
-    if is_named(text, start, len, b"XOR") {
-        return Made::Table(6);
-    }
-    if is_named(text, start, len, b"XNOR") {
-        return Made::Table(9);
-    }
-    Made::Refused(Refusal::Unknown)
 }
 
 // The table of an operation with so many inputs.
-pub fn bristol_truth_table(text: &[u8], start: usize, len: usize, inputs: usize) -> Made
-    requires { start + len ≤ length text.now }
-    ensures { made_of result ≡ table_try (truth_table (stretch text.now start len) inputs) }
+#[tactic(auto, unfolding(crate::specs::Operation::truth_table))]
+pub fn bristol_truth_table(text: &[u8], word: Word, inputs: usize) -> Result<usize, Refusal>
+    requires { word.start + word.len ≤ length text.now }
+    ensures { result ≡ truth_table (stretch text.now word.start word.len) inputs }
 {
-    if inputs == 1 {
-        if is_inverter(text, start, len) {
-            return Made::Table(1);
-        }
-        return Made::Refused(Refusal::Unknown);
+    match inputs {
+        1 if is_inverter(text, word) => Ok(1),
+        2 => two_input_table(text, word),
+        _ => Err(Refusal::Unknown),
     }
-    if inputs == 2 {
-        return two_input_table(text, start, len);
-    }
-    Made::Refused(Refusal::Unknown)
 }
 
 // The operation of a row with so many inputs.
-pub fn read_operation(text: &[u8], start: usize, len: usize, inputs: usize) -> Made
-    requires { start + len ≤ length text.now }
-    ensures { made_of result ≡ operation (stretch text.now start len) inputs }
+#[tactic(auto, unfolding(crate::specs::Operation::operation))]
+pub fn read_operation(text: &[u8], word: Word, inputs: usize) -> Result<Made, Refusal>
+    requires { word.start + word.len ≤ length text.now }
+    ensures { made_of result ≡ operation (stretch text.now word.start word.len) inputs }
 {
-    if is_alias(text, start, len) {
-        if inputs == 1 {
-            return Made::Alias;
-        }
-        return Made::Refused(Refusal::WrongCount);
+    if !is_alias(text, word) {
+        return Ok(Made::Table(bristol_truth_table(text, word, inputs)?));
     }
-    bristol_truth_table(text, start, len, inputs)
+    if inputs == 1 {
+        Ok(Made::Alias)
+    } else {
+        Err(Refusal::WrongCount)
+    }
 }

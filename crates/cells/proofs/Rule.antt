@@ -7,13 +7,14 @@ use Prim.Native.Nat.{ℕ, zero, suc, ◌+◌, ◌*◌, ◌<◌}
 use native.Mathlib.Omega.{arith}
 use lib.Dec.{eqb}
 use borrow.Author.Tests.{eqb-true, eq-eqb}
+use Rattle.laws.specs.Stretches.{All}
 use Rattle.laws.proofs.Bits.{bit_small}
+use Rattle.laws.proofs.Stretches.{all_append}
 use Rattle.cells.specs.Cells.{entry, index_from, fillings, agreed, cell_rule}
 
 -- every number of a list has a property
 abbrev pub Each : (ℕ → Type 0) → List ℕ → Type 0
-Each P [] = Unit
-Each P (x ∷ xs) = P x × Each P xs
+Each = All
 
 each_first : (P : ℕ → Type 0) (s t : List ℕ) → Each P (s ++ t) → Each P s
 each_first P [] t h = tt
@@ -22,10 +23,6 @@ each_first P (x ∷ s) t h = (h.0, each_first P s t h.1)
 each_second : (P : ℕ → Type 0) (s t : List ℕ) → Each P (s ++ t) → Each P t
 each_second P [] t h = h
 each_second P (x ∷ s) t h = each_second P s t h.1
-
-each-join : (P : ℕ → Type 0) (s t : List ℕ) → Each P s → Each P t → Each P (s ++ t)
-each-join P [] t h g = g
-each-join P (x ∷ s) t h g = (h.0, each-join P s t h.1 g)
 
 each_map : (P : ℕ → Type 0) (f : ℕ → ℕ) (l : List ℕ) → Each P (map f l) → Each (λ x. P (f x)) l
 each_map P f [] h = tt
@@ -56,7 +53,7 @@ narrow P k (suc zero ∷ us) (v ∷ vs) a h =
 narrow P k (suc (suc u) ∷ us) (zero ∷ vs) a h = narrow P (2 * k) us vs a.1 (each_first P (fillings (2 * k) us) (fillings (2 * k + 1) us) h)
 narrow P k (suc (suc u) ∷ us) (suc zero ∷ vs) a h = narrow P (2 * k + 1) us vs a.1 (each_second P (fillings (2 * k) us) (fillings (2 * k + 1) us) h)
 narrow P k (suc (suc u) ∷ us) (suc (suc v) ∷ vs) a h =
-    each-join P (fillings (2 * k) vs) (fillings (2 * k + 1) vs)
+    all_append P (fillings (2 * k) vs) (fillings (2 * k + 1) vs)
     (narrow P (2 * k) us vs a.1 (each_first P (fillings (2 * k) us) (fillings (2 * k + 1) us) h))
     (narrow P (2 * k + 1) us vs a.1 (each_second P (fillings (2 * k) us) (fillings (2 * k + 1) us) h))
 

@@ -1,9 +1,10 @@
 -- The laws of the circuit check: a node's wires, the scans of wires and nodes, and what a check's answer tells.
 -- Assumes nothing.
+use Rattle.std.specs.Prelude.{Err, Ok}
 use mathlib.Core.Path.{◌≡◌, refl, sym, ap, ap₂, ◌∙◌, subst}
 use mathlib.Core.List.{List, [], ◌∷◌}
 use mathlib.Core.Bool.{Bool, true, false, cond, ◌&&◌, ◌||◌}
-use Prim.Native.Nat.{ℕ, zero, suc, ◌+◌, ◌-◌, ◌*◌, ◌/◌, ◌%◌, ◌≤◌, ◌<◌}
+use Prim.Native.Nat.{ℕ, zero, suc, ◌+◌, ◌-◌, ◌*◌, ◌/◌, ◌%◌, ◌≤◌, ◌<◌, min}
 use native.Mathlib.Nat.{zero-add}
 use native.Mathlib.Numerals.{add-one}
 use native.Mathlib.Omega.{arith}
@@ -16,8 +17,7 @@ use Rattle.laws.proofs.Areas.{up_start, up_more, up_none}
 use Rattle.laws.proofs.Lists.{none_narrower}
 use Rattle.circuit.specs.declared.refusals.Refusal.{Refusal}
 use Rattle.circuit.specs.declared.refusals.Refusal.TheVariants.{Broken, NotEarlier}
-use Rattle.circuit.specs.declared.refusals.Checked.{Checked}
-use Rattle.circuit.specs.declared.refusals.Checked.TheVariants.{Sound, Refused}
+use Rattle.circuit.specs.Refusals.{Checked}
 use Rattle.circuit.specs.declared.records.BoolWire.{BoolWire}
 use Rattle.circuit.specs.declared.records.BoolWire.TheVariants.{Const, Node}
 use Rattle.circuit.specs.declared.records.BoolNode.{BoolNode}
@@ -28,14 +28,14 @@ use Rattle.circuit.proofs.Codes.{node_is, length_nodes}
 
 -- ---- the first fault of two checks
 
-pub no_fault : (a b : Checked) → first_fault a b ≡ Sound → (a ≡ Sound) × (b ≡ Sound)
-no_fault Sound b e = (refl, e)
-no_fault (Refused r) b e = absurd (apart e)
+pub no_fault : (a b : Checked) → first_fault a b ≡ Ok tt → (a ≡ Ok tt) × (b ≡ Ok tt)
+no_fault (Ok u) b e = (refl, e)
+no_fault (Err r) b e = absurd (apart e)
   where
-    apart : Refused r ≡ Sound → ⊥
+    apart : ◌≡◌ {A = Checked} (Err r) (Ok tt) → ⊥
     apart q = let z : ◌≡◌ {A = ℕ} 0 1 = cc in omega arith
 
-pub not_refused : (t : Bool) (e : Refusal) → refuse_if t e ≡ Sound → t ≡ false
+pub not_refused : (t : Bool) (e : Refusal) → refuse_if t e ≡ Ok tt → t ≡ false
 not_refused true e q = let z : ◌≡◌ {A = ℕ} 0 1 = cc in absurd (omega arith)
 not_refused false e q = refl
 
@@ -50,11 +50,8 @@ module _ (n : BoolNode) where
   unfolding wires_of is_cell_node
   no-wires e = rw (ne_eqb n.kind 2 e)
 
-  pub count_few : n.kind ≡ 2 → n.count < 2 → n.count ≡ length (wires_of n)
-  count_few e h = rw (cell_wires e) (simp length-take (omega arith))
-
-  pub count_most : n.kind ≡ 2 → 2 ≤ n.count → 2 ≡ length (wires_of n)
-  count_most e h = rw (cell_wires e) (simp length-take (omega arith))
+  pub few_wires : n.kind ≡ 2 → min n.count 2 ≡ length (wires_of n)
+  few_wires e = rw (cell_wires e) (simp length-take (omega arith))
 
   pub wire_first : (k : ℕ) → k < length (wires_of n) → k ≡ 0 → n.first ≡ get_or (wires_of n) k no_wire
   unfolding wires_of
@@ -92,11 +89,11 @@ wrong_count n a b p q = rw (ne_eqb _ _ a, eq-eqb _ _ b, outside n.count p q)
 -- ---- the scan of a node's wires
 
 module _ (m i : ℕ) (ws : List BoolWire) (k : ℕ) where
-  pub wire_outside : k < length ws → not_below m (get_or ws k no_wire) ≡ true → check_wires m i (drop k ws) ≡ Refused Broken
+  pub wire_outside : k < length ws → not_below m (get_or ws k no_wire) ≡ true → check_wires m i (drop k ws) ≡ Err Broken
   unfolding check_wires
   wire_outside h e = rw (drop-cons ws k no_wire h, e)
 
-  pub wire_ahead : k < length ws → not_below m (get_or ws k no_wire) ≡ false → not_below i (get_or ws k no_wire) ≡ true → check_wires m i (drop k ws) ≡ Refused NotEarlier
+  pub wire_ahead : k < length ws → not_below m (get_or ws k no_wire) ≡ false → not_below i (get_or ws k no_wire) ≡ true → check_wires m i (drop k ws) ≡ Err NotEarlier
   unfolding check_wires
   wire_ahead h e f = rw (drop-cons ws k no_wire h, e, f)
 
@@ -104,7 +101,7 @@ module _ (m i : ℕ) (ws : List BoolWire) (k : ℕ) where
   unfolding check_wires
   wire_passed h e f = rw (drop-cons ws k no_wire h, e, f, add-one k)
 
-  pub wires_passed : length ws ≤ k → check_wires m i (drop k ws) ≡ Sound
+  pub wires_passed : length ws ≤ k → check_wires m i (drop k ws) ≡ Ok tt
   unfolding check_wires
   wires_passed h = rw (drop_of_length-le ws h)
 
@@ -117,7 +114,7 @@ rest a m i = check_nodes m i (up_from (node_at a) i (m - i))
 pub scan_start : (a : List ℕ) (m : ℕ) → check_nodes m 0 (nodes_of a m) ≡ rest a m 0
 scan_start a m = ap (check_nodes m 0) (up_start (node_at a) m)
 
-pub scan_end : (a : List ℕ) (m i : ℕ) → m ≤ i → rest a m i ≡ Sound
+pub scan_end : (a : List ℕ) (m i : ℕ) → m ≤ i → rest a m i ≡ Ok tt
 unfolding check_nodes
 scan_end a m i h = rw (up_none (node_at a) i m h)
 
@@ -128,17 +125,11 @@ module _ (a : List ℕ) (m i : ℕ) (h : i < m) (n : BoolNode) (e : NodeIs a (i 
       ap (check_nodes m i) (up_more (node_at a) i m h)
       ∙ ap₂ (λ (x : BoolNode) (j : ℕ). first_fault (check_node m i x) (check_nodes m j (up_from (node_at a) (i + 1) (m - (i + 1))))) (sym (node_is a i e)) (sym (add-one i))
 
-  pub scan_broken : record_broken n ≡ true → rest a m i ≡ Refused Broken
-  unfolding check_node
-  scan_broken p = rw (turn, p)
+  pub scan_fault : (r : Refusal) → check_node m i n ≡ Err r → rest a m i ≡ Err r
+  scan_fault r q = rw (turn, q)
 
-  pub scan_fault : record_broken n ≡ false → (r : Refusal) → check_wires m i (wires_of n) ≡ Refused r → rest a m i ≡ Refused r
-  unfolding check_node
-  scan_fault p r q = rw (turn, p, q)
-
-  pub scan_passed : record_broken n ≡ false → check_wires m i (wires_of n) ≡ Sound → rest a m i ≡ rest a m (i + 1)
-  unfolding check_node
-  scan_passed p q = rw (turn, p, q)
+  pub scan_passed : check_node m i n ≡ Ok tt → rest a m i ≡ rest a m (i + 1)
+  scan_passed q = rw (turn, q)
 
 -- ---- the checks over the areas
 
@@ -155,11 +146,11 @@ unfolding whole
 is_whole nodes outputs n o = rw (eq-eqb (length nodes % 9) 0 n, eq-eqb (length outputs % 5) 0 o)
 
 module _ (nodes outputs : List ℕ) where
-  pub topological_partial : whole nodes outputs ≡ false → Refused Broken ≡ topological_fault nodes outputs
+  pub topological_partial : whole nodes outputs ≡ false → Err Broken ≡ topological_fault nodes outputs
   unfolding topological_fault
   topological_partial e = rw e
 
-  pub records_partial : whole nodes outputs ≡ false → Refused Broken ≡ records_fault nodes outputs
+  pub records_partial : whole nodes outputs ≡ false → Err Broken ≡ records_fault nodes outputs
   unfolding records_fault
   records_partial e = rw e
 
@@ -183,15 +174,15 @@ below_more k m h (Node n) e = lt-leb m n.0 (omega (arith, leb-false k n.0 e))
 pub all_below_more : (k m : ℕ) → k ≤ m → (ws : List BoolWire) → some_not_below k ws ≡ false → some_not_below m ws ≡ false
 all_below_more k m h = none_narrower (not_below k) (not_below m) (below_more k m h)
 
-wires_sound : (m i : ℕ) (ws : List BoolWire) → check_wires m i ws ≡ Sound → (some_not_below m ws ≡ false) × (some_not_below i ws ≡ false)
+wires_sound : (m i : ℕ) (ws : List BoolWire) → check_wires m i ws ≡ Ok tt → (some_not_below m ws ≡ false) × (some_not_below i ws ≡ false)
 unfolding check_wires
 wires_sound m i [] e = (refl, refl)
 wires_sound m i (w ∷ ws) e = go (not_below m w) refl (not_below i w) refl (wires_sound m i ws)
   where
-    refused : (r : Refusal) → Refused r ≡ Sound → ⊥
+    refused : (r : Refusal) → ◌≡◌ {A = Checked} (Err r) (Ok tt) → ⊥
     refused r q = let z : ◌≡◌ {A = ℕ} 0 1 = cc in omega arith
 
-    go : (a : Bool) → not_below m w ≡ a → (b : Bool) → not_below i w ≡ b → (check_wires m i ws ≡ Sound → (some_not_below m ws ≡ false) × (some_not_below i ws ≡ false))
+    go : (a : Bool) → not_below m w ≡ a → (b : Bool) → not_below i w ≡ b → (check_wires m i ws ≡ Ok tt → (some_not_below m ws ≡ false) × (some_not_below i ws ≡ false))
         → (some_not_below m (w ∷ ws) ≡ false) × (some_not_below i (w ∷ ws) ≡ false)
     go true p b q below = absurd (refused Broken (rw p at e))
     go false p true q below = absurd (refused NotEarlier (rw (p, q) at e))
@@ -203,14 +194,14 @@ pub record Passed (m i : ℕ) (n : BoolNode) : Type 0 where
   pub inside : some_not_below m (wires_of n) ≡ false
   pub earlier : some_not_below i (wires_of n) ≡ false
 
-pub node_passed : (m i : ℕ) (n : BoolNode) → check_node m i n ≡ Sound → Passed m i n
+pub node_passed : (m i : ℕ) (n : BoolNode) → check_node m i n ≡ Ok tt → Passed m i n
 unfolding check_node
 node_passed m i n e =
     let both = no_fault (refuse_if (record_broken n) Broken) (check_wires m i (wires_of n)) e in
     let wired = wires_sound m i (wires_of n) both.1 in
     record { rules = not_refused (record_broken n) Broken both.0; inside = wired.0; earlier = wired.1 }
 
-pub nodes_passed : (m i : ℕ) (ns : List BoolNode) (j : ℕ) → check_nodes m i ns ≡ Sound → j < length ns → Passed m (i + j) (get_or ns j no_node)
+pub nodes_passed : (m i : ℕ) (ns : List BoolNode) (j : ℕ) → check_nodes m i ns ≡ Ok tt → j < length ns → Passed m (i + j) (get_or ns j no_node)
 unfolding check_nodes
 nodes_passed m i [] j e h = absurd (omega arith)
 nodes_passed m i (n ∷ ns) zero e h =
@@ -225,7 +216,7 @@ pub record Sounds (ns : List BoolNode) (os : List BoolWire) : Type 0 where
   pub nodes : (j : ℕ) → j < length ns → Passed (length ns) j (get_or ns j no_node)
   pub outputs : some_not_below (length ns) os ≡ false
 
-pub circuit-sound : (ns : List BoolNode) (os : List BoolWire) → check_circuit ns os ≡ Sound → Sounds ns os
+pub circuit-sound : (ns : List BoolNode) (os : List BoolWire) → check_circuit ns os ≡ Ok tt → Sounds ns os
 unfolding check_circuit
 circuit-sound ns os e =
     let both = no_fault (check_nodes (length ns) 0 ns) (refuse_if (some_not_below (length ns) os) Broken) e in

@@ -1,5 +1,6 @@
 -- The graph of a circuit's nodes, and that a circuit which the check accepts reads only earlier nodes.
 -- Assumes nothing.
+use Rattle.std.specs.Prelude.{Ok}
 use Prim.Native.Nat.{ℕ, zero, suc, ◌<◌}
 use mathlib.Core.Path.{◌≡◌, refl, sym, ap, ◌∙◌, subst}
 use mathlib.Core.Logic.{◌⊎◌, inl, inr}
@@ -15,7 +16,6 @@ use Rattle.laws.proofs.Lists.{elem-cons-split}
 use Rattle.circuit.specs.declared.records.BoolWire.{BoolWire}
 use Rattle.circuit.specs.declared.records.BoolWire.TheVariants.{Const, Node}
 use Rattle.circuit.specs.declared.records.BoolNode.{BoolNode}
-use Rattle.circuit.specs.declared.refusals.Checked.TheVariants.{Sound}
 use Rattle.circuit.specs.Records.{is_cell_node, wires_of, no_node}
 use Rattle.circuit.specs.Check.{some_not_below, check_circuit}
 use Rattle.circuit.specs.Graph.{Vertex, nodes_read, vertex_of, graph_of, outside, is_cell, reads_of, Forward}
@@ -63,5 +63,5 @@ sound_forward ns os s x y r =
     let inside : x < length ns = subst (λ (m : ℕ). x < m) (length_graph ns) (cell_below (graph_of ns) x r.reader) in
     read_below x y (wires_of (get_or ns x no_node)) (s.nodes x inside).earlier (ap (elem y) (sym (reads_at ns x)) ∙ r.among)
 
-pub checked_forward : (ns : List BoolNode) (os : List BoolWire) → check_circuit ns os ≡ Sound → Forward (graph_of ns)
+pub checked_forward : (ns : List BoolNode) (os : List BoolWire) → check_circuit ns os ≡ Ok tt → Forward (graph_of ns)
 checked_forward ns os e = sound_forward ns os (circuit-sound ns os e)

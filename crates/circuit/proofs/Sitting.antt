@@ -1,5 +1,6 @@
 -- Nodes that keep the rules at their places: what a reader shows of each node that it appends, and that the check then accepts.
 -- Assumes nothing.
+use Rattle.std.specs.Prelude.{Ok}
 use mathlib.Core.Path.{◌≡◌, refl, subst}
 use mathlib.Core.List.{List, [], ◌∷◌, ◌++◌}
 use mathlib.Core.Bool.{false}
@@ -9,7 +10,6 @@ use native.Mathlib.Omega.{arith}
 use borrow.Author.Tests.{eq-eqb, ne_eqb, lt-leb}
 use lib.ListN.{length}
 use Rattle.laws.proofs.Tests.{neither}
-use Rattle.circuit.specs.declared.refusals.Checked.TheVariants.{Sound}
 use Rattle.circuit.specs.declared.records.BoolWire.{BoolWire}
 use Rattle.circuit.specs.declared.records.BoolNode.{BoolNode}
 use Rattle.circuit.specs.Records.{wire_of, wires_of}
@@ -32,7 +32,7 @@ sit_more i (x ∷ xs) n h s = (h.0, sit_more (suc i) xs n h.1 (subst (λ (k : �
 
 -- ---- the check accepts them
 
-wires_checked : (m i : ℕ) (ws : List BoolWire) → some_not_below m ws ≡ false → some_not_below i ws ≡ false → check_wires m i ws ≡ Sound
+wires_checked : (m i : ℕ) (ws : List BoolWire) → some_not_below m ws ≡ false → some_not_below i ws ≡ false → check_wires m i ws ≡ Ok tt
 unfolding check_wires
 wires_checked m i [] p q = refl
 wires_checked m i (w ∷ ws) p q =
@@ -40,14 +40,14 @@ wires_checked m i (w ∷ ws) p q =
     let b = neither (not_below i w) (some_not_below i ws) q in
     rw (a.0, b.0) (wires_checked m i ws a.1 b.1)
 
-nodes_checked : (m i : ℕ) (ns : List BoolNode) → i + length ns ≤ m → AllSit i ns → check_nodes m i ns ≡ Sound
+nodes_checked : (m i : ℕ) (ns : List BoolNode) → i + length ns ≤ m → AllSit i ns → check_nodes m i ns ≡ Ok tt
 unfolding check_nodes check_node
 nodes_checked m i [] h s = refl
 nodes_checked m i (n ∷ ns) h s =
     let inside = all_below_more i m (omega arith) (wires_of n) s.0.earlier in
     rw (s.0.rules, wires_checked m i (wires_of n) inside s.0.earlier) (nodes_checked m (suc i) ns (omega arith) s.1)
 
-pub circuit_checked : (ns : List BoolNode) (os : List BoolWire) → AllSit 0 ns → some_not_below (length ns) os ≡ false → check_circuit ns os ≡ Sound
+pub circuit_checked : (ns : List BoolNode) (os : List BoolWire) → AllSit 0 ns → some_not_below (length ns) os ≡ false → check_circuit ns os ≡ Ok tt
 unfolding check_circuit
 circuit_checked ns os s o = rw (nodes_checked (length ns) 0 ns (omega arith) s, o)
 

@@ -1,10 +1,9 @@
 -- The circuit rules, and the answers of the two checks of a circuit.
 -- Assumes nothing.
-use Rattle.std.specs.Prelude.{List, [], ◌∷◌, Bool, true, false, cond, not, ◌&&◌, ◌||◌, ℕ, suc, ◌^◌, ◌/◌, ◌%◌, eqb, leb, length}
+use Rattle.std.specs.Prelude.{List, [], ◌∷◌, Bool, true, false, cond, not, ◌&&◌, ◌||◌, ℕ, suc, ◌^◌, ◌/◌, ◌%◌, eqb, leb, length, Err, Ok}
 use Rattle.laws.specs.Lists.{some}
 use Rattle.circuit.specs.declared.refusals.Refusal.TheVariants.{Broken, NotEarlier}
-use Rattle.circuit.specs.declared.refusals.Checked.{Checked}
-use Rattle.circuit.specs.declared.refusals.Checked.TheVariants.{Sound, Refused}
+use Rattle.circuit.specs.Refusals.{Checked}
 use Rattle.circuit.specs.declared.records.BoolWire.{BoolWire}
 use Rattle.circuit.specs.declared.records.BoolWire.TheVariants.{Const, Node}
 use Rattle.circuit.specs.declared.records.BoolNode.{BoolNode}
@@ -30,15 +29,15 @@ some_not_below k ws = some (not_below k) ws
 
 -- "Checking a circuit leaves both scans at the first forward read: 15, then 16": the wires of node i of m in turn
 unfoldable pub check_wires : ℕ → ℕ → List BoolWire → Checked
-check_wires m i [] = Sound
-check_wires m i (w ∷ ws) = cond (not_below m w) (Refused Broken) (cond (not_below i w) (Refused NotEarlier) (check_wires m i ws))
+check_wires m i [] = Ok tt
+check_wires m i (w ∷ ws) = cond (not_below m w) (Err Broken) (cond (not_below i w) (Err NotEarlier) (check_wires m i ws))
 
 unfoldable pub check_node : ℕ → ℕ → BoolNode → Checked
 check_node m i n = first_fault (refuse_if (record_broken n) Broken) (check_wires m i (wires_of n))
 
 -- nodes i, i + 1, .. of m: the first fault
 unfoldable pub check_nodes : ℕ → ℕ → List BoolNode → Checked
-check_nodes m i [] = Sound
+check_nodes m i [] = Ok tt
 check_nodes m i (n ∷ ns) = first_fault (check_node m i n) (check_nodes m (suc i) ns)
 
 -- the nodes, then the output wires

@@ -1,10 +1,8 @@
 -- Refusals: 01's numbers, the first fault of several, and a definition's answer or its refusal.
 -- Assumes nothing.
-use Rattle.std.specs.Prelude.{ℕ, Bool, true, false}
+use Rattle.std.specs.Prelude.{ℕ, Bool, true, false, Result, Ok, Err}
 use Rattle.circuit.specs.declared.refusals.Refusal.{Refusal}
 use Rattle.circuit.specs.declared.refusals.Refusal.TheVariants.{TextTooLong, NotAscii, NoRoom, DefinedBefore, NoDriver, WrongCount, BadRow, Unknown, Malformed, NoOutputs, HeaderMismatch, NotNumber, OutputOutside, DrivenTwice, Broken, NotEarlier, Circle, NoWindow, WrongValues, UnfitOrder, TooManyInputs}
-use Rattle.circuit.specs.declared.refusals.Checked.{Checked}
-use Rattle.circuit.specs.declared.refusals.Checked.TheVariants.{Sound, Refused}
 
 -- "Refusals (0 is accepted)": the table's number of each
 abbrev pub number_of : Refusal → ℕ
@@ -30,36 +28,39 @@ number_of WrongValues = 19
 number_of UnfitOrder = 20
 number_of TooManyInputs = 21
 
+-- what a definition gives: a value, or the refusal
+abbrev pub Try : Type 0 → Type 0
+Try A = Result A Refusal
+
+-- the answer of a check
+abbrev pub Checked : Type 0
+Checked = Try (Unit {0})
+
 -- the number of a check's answer
 abbrev pub checked_number : Checked → ℕ
-checked_number Sound = 0
-checked_number (Refused e) = number_of e
+checked_number (Ok u) = 0
+checked_number (Err e) = number_of e
 
 -- a check that refuses where a test holds
 abbrev pub refuse_if : Bool → Refusal → Checked
-refuse_if true e = Refused e
-refuse_if false e = Sound
+refuse_if true e = Err e
+refuse_if false e = Ok tt
 
 -- the first fault of two checks
 abbrev pub first_fault : Checked → Checked → Checked
-first_fault (Refused e) c = Refused e
-first_fault Sound c = c
-
--- what a definition gives: a value, or the refusal
-pub data Try (A : Type 0) : Type 0 where
-  no : Refusal → Try A
-  yes : A → Try A
+first_fault (Err e) c = Err e
+first_fault (Ok u) c = c
 
 abbrev pub and_then : {A B : Type 0} → Try A → (A → Try B) → Try B
-and_then (no e) f = no e
-and_then (yes a) f = f a
+and_then (Err e) f = Err e
+and_then (Ok a) f = f a
 
 -- refused unless the test holds
 abbrev pub need : {A : Type 0} → Bool → Refusal → Try A → Try A
 need true e k = k
-need false e k = no e
+need false e k = Err e
 
 -- a check, then the rest
 abbrev pub check_then : {A : Type 0} → Checked → Try A → Try A
-check_then Sound k = k
-check_then (Refused e) k = no e
+check_then (Ok u) k = k
+check_then (Err e) k = Err e

@@ -1,49 +1,28 @@
-// Areas: cleared, and a record stored in its place.
-ghost use Rattle.std.specs.Prelude.{◌≡◌, ◌+◌, ◌*◌, ◌^◌, ◌<◌, ◌≤◌, length, replicate};
+// Areas: a record stored in its place.
+ghost use Rattle.std.specs.Prelude.{◌≡◌, ◌+◌, ◌*◌, ◌^◌, ◌<◌, ◌≤◌, length};
 ghost use Rattle.laws.specs.Areas.{stored, capacity};
 ghost use Rattle.circuit.specs.Records.{wire_word, encode_node, encode_output};
 
 use crate::records::{BoolNode, Output, node_words, output_words};
-
-pub fn clear(area: &mut [usize])
-    ensures { area.new ≡ replicate (length area.old) 0 }
-{
-    for i in 0..area.len() {
-        area[i] = 0;
-    }
-}
-
-pub fn clear_bytes(area: &mut [u8])
-    ensures { area.new ≡ replicate (length area.old) 0 }
-{
-    for i in 0..area.len() {
-        area[i] = 0;
-    }
-}
 
 // How many records of a width an area of so many words takes.
 pub fn records_in(words: usize, width: usize) -> usize
     requires { 0 < width }
     ensures { result ≡ capacity width words }
 {
-    let n = words / width;
-    if n < 1048576 {
-        return n;
-    }
-    1048576
+    (words / width).min(1048576)
 }
 
-// The words stored from an index on: the one loop of every record that is stored.
+// The words stored from an index on: every record is stored by this.
 pub fn put(area: &mut [usize], at: usize, words: &[usize])
     requires { at + length words.now ≤ length area.old }
     ensures { area.new ≡ stored area.old at words.now }
 {
-    for j in 0..words.len() {
-        area[at + j] = words[j];
-    }
+    let end = at + words.len();
+    area[at..end].copy_from_slice(words);
 }
 
-// Node i, stored.
+// Node i, stored. Beside `put_output` no twin: each has its record's width and words, over the one `put`.
 pub fn put_node(nodes: &mut [usize], i: usize, n: BoolNode)
     requires i_in_bounds { i * 9 + 9 ≤ length nodes.old }
     requires first_bound { (wire_word n.first < 2 ^ 64) × (wire_word n.second < 2 ^ 64) }

@@ -1,10 +1,10 @@
 // The circuit rules (15) and the circuit check (15, 16).
 ghost use Rattle.std.specs.Prelude.{◌≡◌, ◌+◌, ◌*◌, ◌≤◌, length};
 ghost use Rattle.circuit.specs.Records.{wires_of, nodes_of, output_wires};
-ghost use Rattle.circuit.specs.Check.{not_below, some_not_below, record_broken, check_nodes, node_broken, some_broken, topological_fault, records_fault};
+ghost use Rattle.circuit.specs.Check.{not_below, some_not_below, record_broken, check_nodes, check_node, node_broken, some_broken, whole, topological_fault, records_fault};
 
-use crate::records::{BoolNode, BoolWire, node_at, wire_at, wire_count, wire_of};
-use crate::refusals::{Checked, Refusal};
+use crate::records::{BoolNode, BoolWire, node_at, wire_at, wire_count};
+use crate::refusals::Refusal;
 
 // The wire is a node's that is not below k.
 pub fn not_below(w: BoolWire, k: usize) -> bool
@@ -20,50 +20,42 @@ pub fn not_below(w: BoolWire, k: usize) -> bool
 pub fn record_broken(n: BoolNode) -> bool
     ensures { result ≡ record_broken n }
 {
-    if n.kind == 1 {
-        return false;
+    match (n.kind, n.count) {
+        (1, _) => false,
+        (2, 1) => 4 <= n.table,
+        (2, 2) => 16 <= n.table,
+        _ => true,
     }
-    if n.kind == 2 {
-        if n.count == 1 {
-            return 4 <= n.table;
+}
+
+// Node i of m: its record, then its wires in turn.
+pub fn check_node(n: BoolNode, m: usize, i: usize) -> Result<(), Refusal>
+    ensures { result ≡ check_node m i n }
+{
+    if record_broken(n) {
+        return Err(Refusal::Broken);
+    }
+    for k in 0..wire_count(n) {
+        let w = wire_at(n, k);
+        if not_below(w, m) {
+            return Err(Refusal::Broken);
         }
-        if n.count == 2 {
-            return 16 <= n.table;
+        if not_below(w, i) {
+            return Err(Refusal::NotEarlier);
         }
     }
-    true
+    Ok(())
 }
 
 // The nodes: both scans are left at the first fault.
-pub fn check_nodes(nodes: &[usize], count: usize) -> Checked
+pub fn check_nodes(nodes: &[usize], count: usize) -> Result<(), Refusal>
     requires { count * 9 ≤ length nodes.now }
     ensures { result ≡ check_nodes count 0 (nodes_of nodes.now count) }
 {
-    let mut answer = Checked::Sound;
-    let mut i = 0;
-    'scan: while i < count {
-        let n = node_at(nodes, i);
-        if record_broken(n) {
-            answer = Checked::Refused(Refusal::Broken);
-            break 'scan;
-        }
-        let wires = wire_count(n);
-        let mut k = 0;
-        'wires: while k < wires {
-            let w = wire_at(n, k);
-            if not_below(w, count) {
-                answer = Checked::Refused(Refusal::Broken);
-                break 'scan;
-            }
-            if not_below(w, i) {
-                answer = Checked::Refused(Refusal::NotEarlier);
-                break 'scan;
-            }
-            k += 1;
-        }
-        i += 1;
+    for i in 0..count {
+        check_node(node_at(nodes, i), count, i)?;
     }
-    answer
+    Ok(())
 }
 
 // Some output's wire is not below m.
@@ -72,7 +64,7 @@ pub fn some_output_outside(outputs: &[usize], count: usize, m: usize) -> bool
     ensures { result ≡ some_not_below m (output_wires outputs.now count) }
 {
     for j in 0..count {
-        let w = wire_of(outputs[j * 5 + 4]);
+        let w = BoolWire::from(outputs[j * 5 + 4]);
         if not_below(w, m) {
             return true;
         }
@@ -98,10 +90,7 @@ pub fn some_wire_outside(n: BoolNode, m: usize) -> bool
 pub fn node_broken(n: BoolNode, m: usize) -> bool
     ensures { result ≡ node_broken m n }
 {
-    if record_broken(n) {
-        return true;
-    }
-    some_wire_outside(n, m)
+    record_broken(n) || some_wire_outside(n, m)
 }
 
 // Some node of the area breaks a rule.
@@ -118,45 +107,38 @@ pub fn some_broken(nodes: &[usize], count: usize) -> bool
     false
 }
 
+// The areas hold whole records.
+pub fn are_whole(nodes: &[usize], outputs: &[usize]) -> bool
+    ensures { result ≡ whole nodes.now outputs.now }
+{
+    nodes.len() % 9 == 0 && outputs.len() % 5 == 0
+}
+
 // The 15 over every record and output.
-pub fn check_records(nodes: &[usize], outputs: &[usize]) -> Checked
+pub fn check_records(nodes: &[usize], outputs: &[usize]) -> Result<(), Refusal>
     ensures { result ≡ records_fault nodes.now outputs.now }
 {
-    if nodes.len() % 9 == 0 {
-        if outputs.len() % 5 == 0 {
-            let count = nodes.len() / 9;
-            if some_broken(nodes, count) {
-                return Checked::Refused(Refusal::Broken);
-            }
-            if some_output_outside(outputs, outputs.len() / 5, count) {
-                return Checked::Refused(Refusal::Broken);
-            }
-            return Checked::Sound;
-        }
+    let count = nodes.len() / 9;
+    if !are_whole(nodes, outputs)
+        || some_broken(nodes, count)
+        || some_output_outside(outputs, outputs.len() / 5, count)
+    {
+        return Err(Refusal::Broken);
     }
-    Checked::Refused(Refusal::Broken)
+    Ok(())
 }
 
 // Every node reads earlier ones alone: 15, 16.
-pub fn validate_topological(nodes: &[usize], outputs: &[usize]) -> Checked
+pub fn validate_topological(nodes: &[usize], outputs: &[usize]) -> Result<(), Refusal>
     ensures { result ≡ topological_fault nodes.now outputs.now }
 {
-    if nodes.len() % 9 == 0 {
-        if outputs.len() % 5 == 0 {
-            let count = nodes.len() / 9;
-            let fault = check_nodes(nodes, count);
-            match fault {
-                Checked::Refused(e) => {
-                    return Checked::Refused(e);
-                }
-                Checked::Sound => {
-                    if some_output_outside(outputs, outputs.len() / 5, count) {
-                        return Checked::Refused(Refusal::Broken);
-                    }
-                    return Checked::Sound;
-                }
-            }
-        }
+    if !are_whole(nodes, outputs) {
+        return Err(Refusal::Broken);
     }
-    Checked::Refused(Refusal::Broken)
+    let count = nodes.len() / 9;
+    check_nodes(nodes, count)?;
+    if some_output_outside(outputs, outputs.len() / 5, count) {
+        return Err(Refusal::Broken);
+    }
+    Ok(())
 }

@@ -30,6 +30,7 @@ pub enum Name {
     Number(WireNumber),
 }
 
+// Kind, count and table are the record's own words: a lent record may hold any, and the C interface fixes 1 for an input and 2 for a cell.
 #[derive(Clone, Copy)]
 pub struct BoolNode {
     pub kind: usize,
@@ -46,59 +47,66 @@ pub struct Output {
     pub wire: BoolWire,
 }
 
-// A wire as one word.
+// How many nodes and outputs a circuit has.
+#[derive(Clone, Copy)]
+pub struct Sizes {
+    pub nodes: usize,
+    pub outputs: usize,
+}
+
+// A wire as one word. No `From`: a node number near the greatest has no word, and `From` asks nothing of its caller.
 pub fn wire_word(w: BoolWire) -> usize
     requires { wire_word w < 2 ^ 64 }
     ensures { result ≡ wire_word w }
 {
     match w {
-        BoolWire::Const(b) => {
-            if b {
-                return 1;
-            }
-            0
-        }
+        BoolWire::Const(b) => usize::from(b),
         BoolWire::Node(n) => n.0 + 2,
     }
 }
 
-pub fn wire_of(x: usize) -> BoolWire
-    ensures { result ≡ wire_of x }
-{
-    if x == 0 {
-        return BoolWire::Const(false);
+// The wire of a word.
+impl From<usize> for BoolWire {
+    ghost from_gives = { λ x w. w ≡ wire_of x };
+
+    fn from(x: usize) -> BoolWire {
+        match x {
+            0 => BoolWire::Const(false),
+            1 => BoolWire::Const(true),
+            _ => BoolWire::Node(NodeNumber(x - 2)),
+        }
     }
-    if x == 1 {
-        return BoolWire::Const(true);
-    }
-    BoolWire::Node(NodeNumber(x - 2))
 }
 
 // A name as four words.
-pub fn name_words(n: Name) -> [usize; 4]
-    ensures { result ≡ name_words n }
-{
-    match n {
-        Name::Stretch { start, len } => [1, start, len, 0],
-        Name::Step { start, len, step } => [2, start, len, step],
-        Name::Number(w) => [3, w.0, 0, 0],
+impl From<Name> for [usize; 4] {
+    ghost from_gives = { λ n a. a ≡ name_words n };
+
+    fn from(n: Name) -> [usize; 4] {
+        match n {
+            Name::Stretch { start, len } => [1, start, len, 0],
+            Name::Step { start, len, step } => [2, start, len, step],
+            Name::Number(w) => [3, w.0, 0, 0],
+        }
     }
 }
 
-pub fn name_of(t: usize, a: usize, b: usize, c: usize) -> Name
-    ensures { result ≡ name_from t a b c }
-{
-    if t == 1 {
-        return Name::Stretch { start: a, len: b };
+// The name of four words.
+impl From<[usize; 4]> for Name {
+    ghost from_gives = { λ a n. n ≡ name_from (get_or a 0 0) (get_or a 1 0) (get_or a 2 0) (get_or a 3 0) };
+
+    fn from(words: [usize; 4]) -> Name {
+        let [form, a, b, c] = words;
+        match form {
+            1 => Name::Stretch { start: a, len: b },
+            2 => Name::Step {
+                start: a,
+                len: b,
+                step: c,
+            },
+            _ => Name::Number(WireNumber(a)),
+        }
     }
-    if t == 2 {
-        return Name::Step {
-            start: a,
-            len: b,
-            step: c,
-        };
-    }
-    Name::Number(WireNumber(a))
 }
 
 // A node as nine words.
@@ -106,20 +114,17 @@ pub fn node_words(n: BoolNode) -> [usize; 9]
     requires { (wire_word n.first < 2 ^ 64) × (wire_word n.second < 2 ^ 64) }
     ensures { result ≡ encode_node n }
 {
-    let name = n.name;
-    let first = n.first;
-    let second = n.second;
-    let w = name_words(name);
+    let [form, start, len, step] = <[usize; 4]>::from(n.name);
     [
         n.kind,
         n.count,
         n.table,
-        w[0],
-        w[1],
-        w[2],
-        w[3],
-        wire_word(first),
-        wire_word(second),
+        form,
+        start,
+        len,
+        step,
+        wire_word(n.first),
+        wire_word(n.second),
     ]
 }
 
@@ -133,9 +138,9 @@ pub fn node_at(nodes: &[usize], i: usize) -> BoolNode
         kind: nodes[b],
         count: nodes[b + 1],
         table: nodes[b + 2],
-        name: name_of(nodes[b + 3], nodes[b + 4], nodes[b + 5], nodes[b + 6]),
-        first: wire_of(nodes[b + 7]),
-        second: wire_of(nodes[b + 8]),
+        name: Name::from([nodes[b + 3], nodes[b + 4], nodes[b + 5], nodes[b + 6]]),
+        first: BoolWire::from(nodes[b + 7]),
+        second: BoolWire::from(nodes[b + 8]),
     }
 }
 
@@ -144,10 +149,8 @@ pub fn output_words(o: Output) -> [usize; 5]
     requires { wire_word o.wire < 2 ^ 64 }
     ensures { result ≡ encode_output o }
 {
-    let name = o.name;
-    let wire = o.wire;
-    let w = name_words(name);
-    [w[0], w[1], w[2], w[3], wire_word(wire)]
+    let [form, start, len, step] = <[usize; 4]>::from(o.name);
+    [form, start, len, step, wire_word(o.wire)]
 }
 
 // Output j of an area.
@@ -157,8 +160,8 @@ pub fn output_at(outputs: &[usize], j: usize) -> Output
 {
     let b = j * 5;
     Output {
-        name: name_of(outputs[b], outputs[b + 1], outputs[b + 2], outputs[b + 3]),
-        wire: wire_of(outputs[b + 4]),
+        name: Name::from([outputs[b], outputs[b + 1], outputs[b + 2], outputs[b + 3]]),
+        wire: BoolWire::from(outputs[b + 4]),
     }
 }
 
@@ -166,13 +169,7 @@ pub fn output_at(outputs: &[usize], j: usize) -> Output
 pub fn wire_count(n: BoolNode) -> usize
     ensures { result ≡ length (wires_of n) }
 {
-    if n.kind == 2 {
-        if n.count < 2 {
-            return n.count;
-        }
-        return 2;
-    }
-    0
+    if n.kind == 2 { n.count.min(2) } else { 0 }
 }
 
 // Wire k of a node's wires.
@@ -180,8 +177,5 @@ pub fn wire_at(n: BoolNode, k: usize) -> BoolWire
     requires { k < length (wires_of n) }
     ensures { result ≡ get_or (wires_of n) k no_wire }
 {
-    if k == 0 {
-        return n.first;
-    }
-    n.second
+    if k == 0 { n.first } else { n.second }
 }

@@ -2,20 +2,18 @@
 -- Assumes nothing.
 use Prim.Native.Nat.{ℕ, zero, suc, ◌+◌, ◌-◌, ◌≤◌, ◌<◌}
 use mathlib.Core.Path.{◌≡◌, refl, ap, ◌∙◌}
-use mathlib.Core.Bool.{true, false}
 use mathlib.Core.List.{List, [], ◌∷◌}
 use native.Mathlib.Omega.{arith}
 use lib.ListN.{length, get_or}
 use borrow.Author.Tests.{eq-eqb, ne_eqb}
-use Rattle.laws.specs.Stretches.{stretch, run, is_not, same_bytes}
+use Rattle.laws.specs.Stretches.{stretch, run, is_not}
 use Rattle.text.specs.Words.{words, next_word}
 use Rattle.text.specs.Lines.{lines}
 use Rattle.text.specs.declared.words.Word.{Word}
 use Rattle.text.proofs.WordLaws.{first_word, no_word, none_after}
 use Rattle.text.proofs.LineLaws.{line_next, lines_over}
-use Rattle.cover.specs.Directives.{model, the_end, inputs, outputs, names, rows_of, directive_of, directive, first_of, rest_of}
+use Rattle.cover.specs.Directives.{rows_of, directive_of, directive, first_of, rest_of}
 use Rattle.cover.specs.declared.directives.Directive.{Directive}
-use Rattle.cover.specs.declared.directives.Directive.TheVariants.{Ignored, Inputs, Outputs, Names, Other}
 
 -- ---- the rows from a place on
 
@@ -32,37 +30,6 @@ module _ (t : List ℕ) (at size e : ℕ) (h : at < size) (k : size ≤ length t
 pub rows_end : (t : List ℕ) (at size : ℕ) → size ≤ at → rows_of t (lines at (stretch t at (size - at))) ≡ []
 unfolding rows_of
 rows_end t at size h = rw (lines_over t at size h)
-
--- ---- directives
-
-module _ (w : List ℕ) where
-  pub is-model : same_bytes w model ≡ true → Ignored ≡ directive w
-  unfolding directive
-  is-model a = rw a
-
-  module _ (a : same_bytes w model ≡ false) where
-    pub is_end : same_bytes w the_end ≡ true → Ignored ≡ directive w
-    unfolding directive
-    is_end b = rw (a, b)
-
-    module _ (b : same_bytes w the_end ≡ false) where
-      pub is-inputs : same_bytes w inputs ≡ true → Inputs ≡ directive w
-      unfolding directive
-      is-inputs c = rw (a, b, c)
-
-      module _ (c : same_bytes w inputs ≡ false) where
-        pub is-outputs : same_bytes w outputs ≡ true → Outputs ≡ directive w
-        unfolding directive
-        is-outputs d = rw (a, b, c, d)
-
-        module _ (d : same_bytes w outputs ≡ false) where
-          pub is-names : same_bytes w names ≡ true → Names ≡ directive w
-          unfolding directive
-          is-names e = rw (a, b, c, d, e)
-
-          pub is_none : same_bytes w names ≡ false → Other ≡ directive w
-          unfolding directive
-          is_none e = rw (a, b, c, d, e)
 
 -- ---- the first word of a line, and those after it
 

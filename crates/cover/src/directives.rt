@@ -1,9 +1,10 @@
 // The directive of a line.
-ghost use Rattle.std.specs.Prelude.{◌≡◌, ◌+◌, ◌-◌, ◌≤◌, length};
+ghost use Rattle.std.specs.Prelude.{◌≡◌, ◌+◌, ◌≤◌, length};
 ghost use Rattle.laws.specs.Stretches.{stretch};
 ghost use Rattle.cover.specs.Directives.{directive};
 
 use text::bytes::is_word;
+use text::words::Word;
 
 #[derive(Clone, Copy)]
 pub enum Directive {
@@ -15,24 +16,20 @@ pub enum Directive {
 }
 
 // The directive of a word.
-pub fn directive_of(text: &[u8], start: usize, len: usize) -> Directive
-    requires { start + len ≤ length text.now }
-    ensures { result ≡ directive (stretch text.now start len) }
+#[tactic(auto, unfolding(crate::specs::Directives::directive))]
+pub fn directive_of(text: &[u8], word: Word) -> Directive
+    requires { word.start + word.len ≤ length text.now }
+    ensures { result ≡ directive (stretch text.now word.start word.len) }
 {
-    if is_word(text, start, len, b".model") {
-        return Directive::Ignored;
+    if is_word(text, word, b".model") || is_word(text, word, b".end") {
+        Directive::Ignored
+    } else if is_word(text, word, b".inputs") {
+        Directive::Inputs
+    } else if is_word(text, word, b".outputs") {
+        Directive::Outputs
+    } else if is_word(text, word, b".names") {
+        Directive::Names
+    } else {
+        Directive::Other
     }
-    if is_word(text, start, len, b".end") {
-        return Directive::Ignored;
-    }
-    if is_word(text, start, len, b".inputs") {
-        return Directive::Inputs;
-    }
-    if is_word(text, start, len, b".outputs") {
-        return Directive::Outputs;
-    }
-    if is_word(text, start, len, b".names") {
-        return Directive::Names;
-    }
-    Directive::Other
 }

@@ -4,7 +4,7 @@ ghost use Rattle.laws.specs.Stretches.{stretch};
 ghost use Rattle.text.specs.Words.{words};
 ghost use Rattle.cover.specs.Gates.{note_word, GateIs};
 
-use text::words::{Word, next_name};
+use text::words::{Word, words_between};
 
 // How many words there are, the first two, and the last.
 #[derive(Clone, Copy)]
@@ -15,59 +15,46 @@ pub struct Gate {
     pub last: Word,
 }
 
-// One word more.
-pub fn note_word(g: Gate, w: Word) -> Gate
-    requires { g.count + 1 < 2 ^ 64 }
-    ensures { result ≡ note_word g w }
-{
-    let first = g.first;
-    let second = g.second;
-    if g.count == 0 {
-        return Gate {
-            count: 1,
-            first: w,
-            second,
-            last: w,
+impl Gate {
+    // One word more.
+    pub fn with_word(self, word: Word) -> Gate
+        requires { self.count + 1 < 2 ^ 64 }
+        ensures { result ≡ note_word self word }
+    {
+        let more = Gate {
+            count: self.count + 1,
+            last: word,
+            ..self
         };
-    }
-    if g.count == 1 {
-        return Gate {
-            count: 2,
-            first,
-            second: w,
-            last: w,
-        };
-    }
-    Gate {
-        count: g.count + 1,
-        first,
-        second,
-        last: w,
+        match self.count {
+            0 => Gate {
+                first: word,
+                ..more
+            },
+            1 => Gate {
+                second: word,
+                ..more
+            },
+            _ => more,
+        }
     }
 }
 
 // The words between two places.
+#[tactic(auto, using(text::proofs::WordLaws::each_word, text::proofs::WordLaws::count_between, crate::proofs::GateLaws::note_count, crate::proofs::GateLaws::note_fits), unfolding(crate::specs::Gates::noted))]
 pub fn gate_words(text: &[u8], from: usize, end: usize) -> Gate
     requires { (from ≤ end) × (end ≤ length text.now) }
     ensures { GateIs end result (words from (stretch text.now from (end - from))) }
 {
     let none = Word { start: 0, len: 0 };
-    let mut g = Gate {
+    let mut gate = Gate {
         count: 0,
         first: none,
         second: none,
         last: none,
     };
-    let mut at = from;
-    while at < end {
-        let w = next_name(text, at, end);
-        let start = w.start;
-        let len = w.len;
-        if len == 0 {
-            return g;
-        }
-        g = note_word(g, w);
-        at = start + len;
+    for word in words_between(text, from, end) {
+        gate = gate.with_word(word);
     }
-    g
+    gate
 }

@@ -1,5 +1,6 @@
 -- Wherever the document speaks of a cover, the table that the reader gives it is the document's function.
 -- Assumes nothing.
+use Rattle.std.specs.Prelude.{Some}
 use Prim.Native.Nat.{ℕ, zero, suc, ◌+◌, ◌-◌, ◌*◌, ◌/◌, ◌%◌, ◌^◌, ◌≤◌, ◌<◌}
 use mathlib.Core.Path.{◌≡◌, refl, sym, ap, ap₂, ◌∙◌, subst}
 use mathlib.Core.Logic.{⊎_elim}
@@ -22,9 +23,7 @@ use Rattle.laws.proofs.Stretches.{length-stretch}
 use Rattle.cells.specs.Cells.{entry, index_from}
 use Rattle.text.specs.Words.{bytes_of}
 use Rattle.text.specs.declared.words.Word.{Word}
-use Rattle.cover.specs.declared.rows.Cover.TheVariants.{Value}
-use Rattle.cover.specs.declared.rows.Row.TheVariants.{Sets}
-use Rattle.cover.specs.Cover.{bit_of, row_with, row_of, fits, matches, set_from, set_row, with_row, set_rows, start_table, last_of, constant, rows_table, cover}
+use Rattle.cover.specs.Cover.{sets, bit_of, row_with, row_of, fits, matches, set_from, set_row, with_row, set_rows, start_table, last_of, constant, rows_table, cover}
 use Rattle.documents.specs.BlifDocument.{is_plane, literal, cube, cover_value, IsRow, IsCover}
 
 -- ---- the index of values
@@ -137,13 +136,13 @@ Inside t rows = All (λ (r : List Word). All (λ (w : Word). w.start + w.len ≤
 abbrev pub row_bytes : List ℕ → List (List Word) → List (List (List ℕ))
 row_bytes t rows = map (map (bytes_of t)) rows
 
-value_bit : (v : ℕ) → v < 2 → bit_of ((48 + v) ∷ []) ≡ Value v
+value_bit : (v : ℕ) → v < 2 → bit_of ((48 + v) ∷ []) ≡ Some v
 unfolding bit_of
 value_bit v h = ⊎_elim (λ e. rw e) (λ e. rw e) (bit_cases v h)
 
 row_read : (t : List ℕ) (n v : ℕ) (r : List Word) (p : List ℕ) → v < 2 → All (λ (w : Word). w.start + w.len ≤ length t) r → IsRow (suc n) v (map (bytes_of t) r) p
-    → (s : ℕ) × (row_of t (suc n) r ≡ Sets s v) × (stretch t s (suc n) ≡ p)
-row_read t n v [] p hv ins is = let z : ◌≡◌ {A = ℕ} 0 1 = cc in absurd (omega arith)
+    → (s : ℕ) × (row_of t (suc n) r ≡ sets s v) × (stretch t s (suc n) ≡ p)
+row_read t n v [] p hv ins is = cc
 row_read t n v (w ∷ []) p hv ins is = let e : length (map (bytes_of t) (w ∷ [])) ≡ 2 = ap length is.0 in absurd (omega arith)
 row_read t n v (w ∷ x ∷ y ∷ ys) p hv ins is = let e = ap length is.0 in absurd (omega (arith, e))
 row_read t n v (w ∷ x ∷ []) p hv ins is = (w.start, made, same)
@@ -157,7 +156,7 @@ row_read t n v (w ∷ x ∷ []) p hv ins is = (w.start, made, same)
     wide : w.len ≡ suc n
     wide = sym (length-stretch t w.start w.len ins.0) ∙ ap length first ∙ is.1
 
-    made : row_of t (suc n) (w ∷ x ∷ []) ≡ Sets w.start v
+    made : row_of t (suc n) (w ∷ x ∷ []) ≡ sets w.start v
     made = unfold row_of row_with in rw (second, value_bit v hv, eq-eqb w.len (suc n) wide)
 
     same : stretch t w.start (suc n) ≡ p
@@ -165,7 +164,7 @@ row_read t n v (w ∷ x ∷ []) p hv ins is = (w.start, made, same)
 
 pub record Read (t : List ℕ) (n v : ℕ) (rows : List (List Word)) (ps : List (List ℕ)) (old : ℕ) : Type 0 where
   pub table : ℕ
-  pub is : set_rows t (suc n) rows old ≡ Value table
+  pub is : set_rows t (suc n) rows old ≡ Some table
   pub entries : (k : ℕ) → k < 2 ^ suc n → entry table k ≡ cond (some (λ p. matches p k) ps) v (entry old k)
 
 rows_read : (t : List ℕ) (n v : ℕ) → v < 2 → (rows : List (List Word)) (ps : List (List ℕ)) → Inside t rows → IsCover (suc n) v (row_bytes t rows) ps → (old : ℕ) → Read t n v rows ps old
@@ -176,7 +175,7 @@ rows_read t n v hv (r ∷ rs) (p ∷ ps) ins is old =
     let one = row_read t n v r p hv ins.0 is.0 in
     next one.0 one.1 one.2 (rows_read t n v hv rs ps ins.1 is.1 (set_row (suc n) p v old))
   where
-    next : (s : ℕ) → row_of t (suc n) r ≡ Sets s v → stretch t s (suc n) ≡ p → Read t n v rs ps (set_row (suc n) p v old) → Read t n v (r ∷ rs) (p ∷ ps) old
+    next : (s : ℕ) → row_of t (suc n) r ≡ sets s v → stretch t s (suc n) ≡ p → Read t n v rs ps (set_row (suc n) p v old) → Read t n v (r ∷ rs) (p ∷ ps) old
     next s e q rest = record {
       table = rest.table;
       is = unfold set_rows with_row in rw (e, q) rest.is;
@@ -200,7 +199,7 @@ same_some (p ∷ ps) vs n v (r ∷ rs) is l h =
 
 pub record Covers (t : List ℕ) (n v : ℕ) (rows : List (List Word)) (ps : List (List ℕ)) : Type 0 where
   pub table : ℕ
-  pub is : cover t n rows ≡ Value table
+  pub is : cover t n rows ≡ Some table
   pub means : (vs : List ℕ) → length vs ≡ n → Bits vs → entry table (index_from 0 vs) ≡ cover_value v ps vs
 
 no_rows : (t : List ℕ) (n v : ℕ) → Covers t n v [] []
@@ -208,7 +207,7 @@ no_rows t zero v = record { table = 0; is = unfold cover constant in refl; means
 no_rows t (suc n) v = record { table = 0; is = unfold cover rows_table in refl; means = λ vs l h. zero_bit (index_from 0 vs) ∙ unfold cover_value in refl }
 
 constant_read : (t : List ℕ) (v : ℕ) (r : List Word) (rs : List (List Word)) (p : List ℕ) (ps : List (List ℕ)) → v < 2 → IsRow 0 v (map (bytes_of t) r) p → Covers t 0 v (r ∷ rs) (p ∷ ps)
-constant_read t v [] rs p ps hv is = let z : ◌≡◌ {A = ℕ} 0 1 = cc in absurd (omega arith)
+constant_read t v [] rs p ps hv is = cc
 constant_read t v (w ∷ x ∷ xs) rs p ps hv is = let e = ap length is.0 in absurd (omega (arith, e))
 constant_read t v (w ∷ []) rs p ps hv is = record {
   table = v;
@@ -232,7 +231,7 @@ cover_means t (suc n) v (r ∷ rs) (p ∷ ps) hv ins is =
     let one = row_read t n v r p hv ins.0 is.0 in
     all one.0 one.1 (rows_read t n v hv (r ∷ rs) (p ∷ ps) ins is (start_table (suc n) v))
   where
-    all : (s : ℕ) → row_of t (suc n) r ≡ Sets s v → Read t n v (r ∷ rs) (p ∷ ps) (start_table (suc n) v) → Covers t (suc n) v (r ∷ rs) (p ∷ ps)
+    all : (s : ℕ) → row_of t (suc n) r ≡ sets s v → Read t n v (r ∷ rs) (p ∷ ps) (start_table (suc n) v) → Covers t (suc n) v (r ∷ rs) (p ∷ ps)
     all s e rest = record {
       table = rest.table;
       is = table_is;
@@ -243,7 +242,7 @@ cover_means t (suc n) v (r ∷ rs) (p ∷ ps) hv ins is =
           ∙ unfold cover_value in refl;
     }
       where
-        table_is : cover t (suc n) (r ∷ rs) ≡ Value rest.table
+        table_is : cover t (suc n) (r ∷ rs) ≡ Some rest.table
         table_is = opened ∙ rest.is
           where
             opened : cover t (suc n) (r ∷ rs) ≡ set_rows t (suc n) (r ∷ rs) (start_table (suc n) v)

@@ -1,5 +1,6 @@
 -- What a line of inputs and a gate leave: every name keeps its value, the inputs have the assignment's, and the gate's equation holds.
 -- Assumes nothing.
+use Rattle.std.specs.Prelude.{None, Ok, Option, Some}
 use Prim.Native.Nat.{ℕ, zero, suc, ◌+◌, ◌^◌, ◌≤◌, ◌<◌}
 use mathlib.Core.Path.{◌≡◌, refl, sym, ap, ap₂, ◌∙◌, subst}
 use mathlib.Core.Bool.{Bool, true, false, cond}
@@ -13,20 +14,17 @@ use Rattle.laws.specs.Stretches.{All}
 use Rattle.laws.proofs.Rows.{length-map}
 use Rattle.circuit.specs.declared.refusals.Refusal.TheVariants.{NoRoom}
 use Rattle.circuit.specs.declared.records.BoolNode.{BoolNode}
-use Rattle.circuit.specs.Refusals.{yes, and_then, need}
+use Rattle.circuit.specs.Refusals.{and_then, need}
 use Rattle.circuit.specs.Records.{is_cell_node, wires_of}
 use Rattle.circuit.proofs.Tries.{no_yes, yes_same, then_yes}
 use Rattle.cells.specs.Cells.{entry, index_from}
 use Rattle.text.specs.Words.{bytes_of}
 use Rattle.text.specs.declared.words.Word.{Word}
 use Rattle.names.specs.Names.{Entry, lookup}
-use Rattle.names.specs.declared.Found.{Found}
-use Rattle.names.specs.declared.Found.TheVariants.{At, Nothing}
 use Rattle.reading.specs.Reading.{Places, Held, find, driver, add_name, with_names, add_node, add_alias, add_named, input_node, add_input, each}
 use Rattle.reading.proofs.Sound.{Wired, wired_more}
 use Rattle.runs.specs.Values.{signal_value, entry_of}
 use Rattle.runs.specs.Runs.{input_count}
-use Rattle.cover.specs.declared.rows.Cover.TheVariants.{Value}
 use Rattle.cover.specs.Cover.{last_of, cover}
 use Rattle.cover.proofs.TableLaws.{cover-fits}
 use Rattle.blif.specs.Blif.{drivers, input_names, cell_node, gate, names_line}
@@ -40,20 +38,20 @@ use Rattle.documents.proofs.BlifValues.{values, wire_value, wire_bit, wire_kept,
 abbrev named : Word → ℕ → Entry
 named w wire = record { start = w.start; len = w.len; wire = wire }
 
-alias_inv : (p : Places) (w : Word) (wire : ℕ) (h h' : Held) → add_alias p w wire h ≡ yes h' → h' ≡ record { nodes = h.nodes; names = named w wire ∷ h.names }
+alias_inv : (p : Places) (w : Word) (wire : ℕ) (h h' : Held) → add_alias p w wire h ≡ Ok h' → h' ≡ record { nodes = h.nodes; names = named w wire ∷ h.names }
 unfolding add_alias add_name
 alias_inv p w wire h h' q = go (ltb (length h.names) p.names) q
   where
-    go : (b : Bool) → with_names h.nodes (need b NoRoom (yes (named w wire ∷ h.names))) ≡ yes h' → h' ≡ record { nodes = h.nodes; names = named w wire ∷ h.names }
+    go : (b : Bool) → with_names h.nodes (need b NoRoom (Ok (named w wire ∷ h.names))) ≡ Ok h' → h' ≡ record { nodes = h.nodes; names = named w wire ∷ h.names }
     go true r = sym (yes_same r)
     go false r = absurd (no_yes r)
 
-named_inv : (p : Places) (w : Word) (n : BoolNode) (h h' : Held) → add_named p w n h ≡ yes h' → h' ≡ record { nodes = h.nodes ++ (n ∷ []); names = named w (length h.nodes + 2) ∷ h.names }
+named_inv : (p : Places) (w : Word) (n : BoolNode) (h h' : Held) → add_named p w n h ≡ Ok h' → h' ≡ record { nodes = h.nodes ++ (n ∷ []); names = named w (length h.nodes + 2) ∷ h.names }
 unfolding add_named add_node add_name
 named_inv p w n h h' q = go (ltb (length h.nodes) p.nodes) (ltb (length h.names) p.names) q
   where
     go : (a b : Bool)
-        → and_then (need a NoRoom (yes (h.nodes ++ (n ∷ [])))) (λ ns. with_names ns (need b NoRoom (yes (named w (length h.nodes + 2) ∷ h.names)))) ≡ yes h'
+        → and_then (need a NoRoom (Ok (h.nodes ++ (n ∷ [])))) (λ ns. with_names ns (need b NoRoom (Ok (named w (length h.nodes + 2) ∷ h.names)))) ≡ Ok h'
         → h' ≡ record { nodes = h.nodes ++ (n ∷ []); names = named w (length h.nodes + 2) ∷ h.names }
     go true true r = sym (yes_same r)
     go true false r = absurd (no_yes r)
@@ -63,12 +61,12 @@ pub find-lookup : (t : List ℕ) (w : Word) (es : List Entry) → find false t w
 unfolding find
 find-lookup t w es = refl
 
-pub driver_at : (t : List ℕ) (w : Word) (es : List Entry) (x : ℕ) → driver (find false t w es) ≡ yes x → lookup t (bytes_of t w) es ≡ At x
+pub driver_at : (t : List ℕ) (w : Word) (es : List Entry) (x : ℕ) → driver (find false t w es) ≡ Ok x → lookup t (bytes_of t w) es ≡ Some x
 driver_at t w es x q = sym (find-lookup t w es) ∙ go (find false t w es) q
   where
-    go : (f : Found) → driver f ≡ yes x → f ≡ At x
-    go (At y) r = ap At (yes_same r)
-    go Nothing r = absurd (no_yes r)
+    go : (f : Option ℕ) → driver f ≡ Ok x → f ≡ Some x
+    go (Some y) r = ap Some (yes_same r)
+    go None r = absurd (no_yes r)
 
 count_more : (ns : List BoolNode) (n : BoolNode) → input_count (ns ++ (n ∷ [])) ≡ input_count ns + cond (is_cell_node n) 0 1
 unfolding input_count
@@ -92,8 +90,8 @@ module _ (t a : List ℕ) where
     known : Known t a h' name
     is : value t a h' name ≡ v
 
-  added_alias : (p : Places) (w : Word) (wire : ℕ) (h h' : Held) → Wired (length h.nodes) h.names → lookup t (bytes_of t w) h.names ≡ Nothing → wire < length h.nodes + 2
-      → add_alias p w wire h ≡ yes h' → Added h h' (bytes_of t w) (wire_value a h.nodes wire) × (h'.nodes ≡ h.nodes)
+  added_alias : (p : Places) (w : Word) (wire : ℕ) (h h' : Held) → Wired (length h.nodes) h.names → lookup t (bytes_of t w) h.names ≡ None → wire < length h.nodes + 2
+      → add_alias p w wire h ≡ Ok h' → Added h h' (bytes_of t w) (wire_value a h.nodes wire) × (h'.nodes ≡ h.nodes)
   added_alias p w wire h h' wd new below q =
       subst (λ (x : Held). Added h x (bytes_of t w) (wire_value a h.nodes wire) × (x.nodes ≡ h.nodes)) (sym (alias_inv p w wire h h' q)) (
         record {
@@ -109,8 +107,8 @@ module _ (t a : List ℕ) where
   abbrev at_end : Held → BoolNode → ℕ
   at_end h n = cond (is_cell_node n) (entry_of (values a h.nodes) n) (get_or a (input_count h.nodes) 0)
 
-  added_node : (p : Places) (w : Word) (n : BoolNode) (h h' : Held) → Wired (length h.nodes) h.names → lookup t (bytes_of t w) h.names ≡ Nothing
-      → add_named p w n h ≡ yes h' → Added h h' (bytes_of t w) (at_end h n) × (h'.nodes ≡ h.nodes ++ (n ∷ []))
+  added_node : (p : Places) (w : Word) (n : BoolNode) (h h' : Held) → Wired (length h.nodes) h.names → lookup t (bytes_of t w) h.names ≡ None
+      → add_named p w n h ≡ Ok h' → Added h h' (bytes_of t w) (at_end h n) × (h'.nodes ≡ h.nodes ++ (n ∷ []))
   added_node p w n h h' wd new q =
       let x : ℕ = length h.nodes + 2 in
       let r : Held = record { nodes = h.nodes ++ (n ∷ []); names = named w x ∷ h.names } in
@@ -134,7 +132,7 @@ module _ (t a : List ℕ) where
     pub assigned : Assigned (value t a h') a (input_count h.nodes) names
     pub counted : input_count h'.nodes ≡ input_count h.nodes + length names
 
-  pub inputs_read : (p : Places) (ws : List Word) (h h' : Held) → Wired (length h.nodes) h.names → each (add_input false t p) ws h ≡ yes h' → InputsRead h h' (map (bytes_of t) ws)
+  pub inputs_read : (p : Places) (ws : List Word) (h h' : Held) → Wired (length h.nodes) h.names → each (add_input false t p) ws h ≡ Ok h' → InputsRead h h' (map (bytes_of t) ws)
   unfolding each
   inputs_read p [] h h' wd q =
       subst (λ (x : Held). InputsRead h x []) (yes_same q)
@@ -168,7 +166,7 @@ module _ (t a : List ℕ) where
     below : All (λ x. x < length h.nodes + 2) xs
     are : map (wire_value a h.nodes) xs ≡ map (value t a h) (map (bytes_of t) ins)
 
-  drivers_read : (h : Held) (ins : List Word) (xs : List ℕ) → Wired (length h.nodes) h.names → drivers t h.names ins ≡ yes xs → Driven h ins xs
+  drivers_read : (h : Held) (ins : List Word) (xs : List ℕ) → Wired (length h.nodes) h.names → drivers t h.names ins ≡ Ok xs → Driven h ins xs
   unfolding drivers
   drivers_read h [] xs wd q = subst (λ (l : List ℕ). Driven h [] l) (yes_same q) (record { count = refl; known = tt; below = tt; are = refl })
   drivers_read h (w ∷ ws) xs wd q =
@@ -176,7 +174,7 @@ module _ (t a : List ℕ) where
       let r = then_yes (drivers t h.names ws) _ xs x.2 in
       joined x.0 r.0 (driver_at t w h.names x.0 x.1) (yes_same r.2) (drivers_read h ws r.0 wd r.1)
     where
-      joined : (x : ℕ) (ys : List ℕ) → lookup t (bytes_of t w) h.names ≡ At x → x ∷ ys ≡ xs → Driven h ws ys → Driven h (w ∷ ws) xs
+      joined : (x : ℕ) (ys : List ℕ) → lookup t (bytes_of t w) h.names ≡ Some x → x ∷ ys ≡ xs → Driven h ws ys → Driven h (w ∷ ws) xs
       joined x ys f e d =
           subst (λ (l : List ℕ). Driven h (w ∷ ws) l) e
           (record {
@@ -221,15 +219,15 @@ module _ (t a : List ℕ) where
   aliased : (h h' : Held) (out : Word) (v u : ℕ) → v ≡ u → Added h h' (bytes_of t out) v × (h'.nodes ≡ h.nodes) → Gated h h' out u
   aliased h h' out v u e d = record { added = subst (λ (x : ℕ). Added h h' (bytes_of t out) x) e d.0; counted = ap input_count d.1 }
 
-  gate_read : Bits a → (p : Places) (out : Word) (xs : List ℕ) (table : ℕ) (h h' : Held) → Wired (length h.nodes) h.names → lookup t (bytes_of t out) h.names ≡ Nothing
-      → All (λ x. x < length h.nodes + 2) xs → length xs ≤ 2 → (length xs ≡ 0 → table < 2) → gate p out xs table h ≡ yes h'
+  gate_read : Bits a → (p : Places) (out : Word) (xs : List ℕ) (table : ℕ) (h h' : Held) → Wired (length h.nodes) h.names → lookup t (bytes_of t out) h.names ≡ None
+      → All (λ x. x < length h.nodes + 2) xs → length xs ≤ 2 → (length xs ≡ 0 → table < 2) → gate p out xs table h ≡ Ok h'
       → Gated h h' out (entry table (index_from 0 (map (wire_value a h.nodes) xs)))
   unfolding gate
   gate_read ha p out [] table h h' wd new below few small q =
       aliased h h' out _ _ (constant-entry h table (small refl)) (added_alias p out table h h' wd new (omega (arith, small refl)) q)
   gate_read ha p out (x ∷ []) table h h' wd new below few small q = go (eqb table 2) refl q
     where
-      go : (b : Bool) → eqb table 2 ≡ b → cond b (add_alias p out x h) (add_named p out (cell_node out (x ∷ []) table) h) ≡ yes h'
+      go : (b : Bool) → eqb table 2 ≡ b → cond b (add_alias p out x h) (add_named p out (cell_node out (x ∷ []) table) h) ≡ Ok h'
           → Gated h h' out (entry table (index_from 0 (map (wire_value a h.nodes) (x ∷ []))))
       go true e r =
           aliased h h' out _ _ (alias_entry (wire_value a h.nodes x) (wire_bit a ha h.nodes x) ∙ ap (λ (k : ℕ). entry k (index_from 0 (wire_value a h.nodes x ∷ []))) (sym (eqb-true table 2 e)))
@@ -242,7 +240,7 @@ module _ (t a : List ℕ) where
 
   -- ---- a `.names` line
 
-  constant_small : (rows : List (List Word)) (n table : ℕ) → n ≡ 0 → cover t n rows ≡ Value table → table < 2
+  constant_small : (rows : List (List Word)) (n table : ℕ) → n ≡ 0 → cover t n rows ≡ Some table → table < 2
   constant_small rows n table z q = subst (λ (m : ℕ). table < 2 ^ 2 ^ m) z (cover-fits t n rows table q)
 
   inputs_are : (w : Word) (ws : List Word) → gate_inputs (bytes_of t w) (map (bytes_of t) ws) ≡ map (bytes_of t) (input_names w ws)
@@ -270,9 +268,9 @@ module _ (t a : List ℕ) where
   value_bit : Bits a → (h : Held) (name : List ℕ) → value t a h name < 2
   value_bit ha h name = go (lookup t name h.names)
     where
-      go : (f : Found) → signal_value (values a h.nodes) (wire_at f) < 2
-      go (At x) = wire_bit a ha h.nodes x
-      go Nothing = omega arith
+      go : (f : Option ℕ) → signal_value (values a h.nodes) (wire_at f) < 2
+      go (Some x) = wire_bit a ha h.nodes x
+      go None = omega arith
 
   value_bits : Bits a → (h : Held) (names : List (List ℕ)) → Bits (map (value t a h) names)
   value_bits ha h [] = tt
@@ -287,8 +285,8 @@ module _ (t a : List ℕ) where
 
   -- a gate that passed its checks
   module _ (ha : Bits a) (p : Places) (w : Word) (ws : List Word) (rows : List (List Word)) (h h' : Held) (wd : Wired (length h.nodes) h.names) (ins : Inside t rows)
-      (new : lookup t (bytes_of t (last_of w ws)) h.names ≡ Nothing) (few : length (input_names w ws) ≤ 2) (xs : List ℕ) (table : ℕ)
-      (dr : Driven h (input_names w ws) xs) (cv : cover t (length (input_names w ws)) rows ≡ Value table) (q : gate p (last_of w ws) xs table h ≡ yes h')
+      (new : lookup t (bytes_of t (last_of w ws)) h.names ≡ None) (few : length (input_names w ws) ≤ 2) (xs : List ℕ) (table : ℕ)
+      (dr : Driven h (input_names w ws) xs) (cv : cover t (length (input_names w ws)) rows ≡ Some table) (q : gate p (last_of w ws) xs table h ≡ Ok h')
     where
       g : Gated h h' (last_of w ws) (entry table (index_from 0 (map (wire_value a h.nodes) xs)))
       g =
@@ -309,7 +307,7 @@ module _ (t a : List ℕ) where
           ∙ c.means vs l (value_bits ha h names)
           ∙ ap (cover_value v ps) (sym (values-kept t a h h' names wd g.added.grows dr.known))
         where
-          same : (x : ℕ) → Value x ≡ Value table → x ≡ table
+          same : (x : ℕ) → Some x ≡ Some table → x ≡ table
           same x r = cc
 
       known_all : (ns : List (List ℕ)) → All (Known t a h) ns → All (Known t a h') ns
@@ -325,7 +323,7 @@ module _ (t a : List ℕ) where
         counted = g.counted;
       }
 
-  pub names_read : Bits a → (p : Places) (ws : List Word) (rows : List (List Word)) (h h' : Held) → Wired (length h.nodes) h.names → Inside t rows → names_line t p ws rows h ≡ yes h'
+  pub names_read : Bits a → (p : Places) (ws : List Word) (rows : List (List Word)) (h h' : Held) → Wired (length h.nodes) h.names → Inside t rows → names_line t p ws rows h ≡ Ok h'
       → GateRead h h' (map (bytes_of t) ws) (row_bytes t rows)
   names_read ha p [] rows h h' wd ins q = absurd (names-none t p rows h h' q)
   names_read ha p (w ∷ ws) rows h h' wd ins q =

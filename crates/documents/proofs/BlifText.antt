@@ -1,5 +1,6 @@
 -- The whole text: the circuit that the reader gives means what the document says, under every assignment of bits.
 -- Assumes nothing.
+use Rattle.std.specs.Prelude.{Err, Ok}
 use Prim.Native.Nat.{ℕ, suc, ◌+◌}
 use mathlib.Core.Path.{◌≡◌, refl, sym, ap, ap₂, ◌∙◌, subst}
 use mathlib.Core.Bool.{Bool, true, false}
@@ -14,7 +15,7 @@ use Rattle.circuit.specs.declared.refusals.Refusal.TheVariants.{NoRoom, Unknown}
 use Rattle.circuit.specs.declared.records.BoolWire.{BoolWire}
 use Rattle.circuit.specs.declared.records.BoolNode.{BoolNode}
 use Rattle.circuit.specs.declared.records.Output.{Output}
-use Rattle.circuit.specs.Refusals.{Try, no, yes, and_then, need}
+use Rattle.circuit.specs.Refusals.{Try, and_then, need}
 use Rattle.circuit.specs.Circuits.{Circuit}
 use Rattle.circuit.proofs.Tries.{no_yes, yes_same, then_yes, need-yes}
 use Rattle.text.specs.Words.{bytes_of, split_whitespace}
@@ -38,12 +39,12 @@ use Rattle.documents.proofs.BlifValues.{values, wire_at, value, Known, Grows, gr
 use Rattle.documents.proofs.BlifGates.{driver_at, InputsRead, inputs_read, GateRead, equation_on, names_read}
 
 -- every word of `.outputs` is collected
-collected : (room : ℕ) (ws os os' : List Word) → each (add_output room) ws os ≡ yes os' → os' ≡ os ++ ws
+collected : (room : ℕ) (ws os os' : List Word) → each (add_output room) ws os ≡ Ok os' → os' ≡ os ++ ws
 unfolding each add_output
 collected room [] os os' q = sym (yes_same q) ∙ sym (append-nil os)
 collected room (w ∷ ws) os os' q =
-    let s = then_yes (need (ltb (length os) room) NoRoom (yes (os ++ (w ∷ [])))) (each (add_output room) ws) os' q in
-    let n = need-yes (ltb (length os) room) NoRoom (yes (os ++ (w ∷ []))) s.0 s.1 in
+    let s = then_yes (need (ltb (length os) room) NoRoom (Ok (os ++ (w ∷ [])))) (each (add_output room) ws) os' q in
+    let n = need-yes (ltb (length os) room) NoRoom (Ok (os ++ (w ∷ []))) s.0 s.1 in
     collected room ws s.0 os' s.2 ∙ ap (λ (l : List Word). l ++ ws) (sym (yes_same n.1)) ∙ append_assoc os (w ∷ []) ws
 
 assigned-append : (value : List ℕ → ℕ) (a : List ℕ) (p : ℕ) (xs ys : List (List ℕ)) → Assigned value a p xs → Assigned value a (p + length xs) ys → Assigned value a p (xs ++ ys)
@@ -125,7 +126,7 @@ module _ (t a : List ℕ) (ha : Bits a) where
     collects = r.collects ∙ ap (λ (os : List Word). map (bytes_of t) os ++ declared outputs ls) q ∙ unfold declared in rw o;
   }
 
-  lines_read : (p : Places) (row : Bool) (ls : List Word) (s s' : State) → All (LineOk t) ls → HeldWired s → read_lines t p row ls s ≡ yes s' → Reads (map (bytes_of t) ls) s s'
+  lines_read : (p : Places) (row : Bool) (ls : List Word) (s s' : State) → All (LineOk t) ls → HeldWired s → read_lines t p row ls s ≡ Ok s' → Reads (map (bytes_of t) ls) s s'
   unfolding read_lines
   lines_read p row [] s s' oks wd q =
       subst (λ (x : State). Reads [] s x) (yes_same q)
@@ -137,7 +138,7 @@ module _ (t a : List ℕ) (ha : Bits a) where
       words_of : words_after (split_whitespace (bytes_of t l)) ≡ map (bytes_of t) (rest_of (line_words t l))
       words_of = ap words_after (words_are t l oks.0) ∙ after_is t (line_words t l)
 
-      by : (mid : State) → (HeldWired mid → Reads (map (bytes_of t) ls) mid s') → (d : Directive) → directive_of t l ≡ d → directive_step t p d (rest_of (line_words t l)) (rows_of t ls) s ≡ yes mid
+      by : (mid : State) → (HeldWired mid → Reads (map (bytes_of t) ls) mid s') → (d : Directive) → directive_of t l ≡ d → directive_step t p d (rest_of (line_words t l)) (rows_of t ls) s ≡ Ok mid
           → Reads (map (bytes_of t) (l ∷ ls)) s s'
       by mid k Ignored e z =
           let y : s ≡ mid = yes_same (unfold directive_step in z) in
@@ -158,10 +159,10 @@ module _ (t a : List ℕ) (ha : Bits a) where
           let d = names_read t a ha p (rest_of (line_words t l)) (rows_of t ls) s.held mid.held wd (rows_inside t ls oks.1) i.0 in
           gate-line (bytes_of t l) (map (bytes_of t) ls) (map (bytes_of t) (rest_of (line_words t l))) (row_bytes t (rows_of t ls)) s mid s' (inputs_line t l oks.0 ∙ ap is_inputs e)
           (outputs_line t l oks.0 ∙ ap is_outputs e) (names-line t l oks.0 ∙ ap is_names e) words_of (rows_are t ls oks.1) i.1 d (k d.wired)
-      by mid k Other e z = let y : ◌≡◌ {A = Try State} (no Unknown) (yes mid) = (unfold directive_step in z) in absurd (no_yes y)
+      by mid k Other e z = let y : ◌≡◌ {A = Try State} (Err Unknown) (Ok mid) = (unfold directive_step in z) in absurd (no_yes y)
 
       step : (mid : State) → (HeldWired mid → Reads (map (bytes_of t) ls) mid s')
-          → (dotted t l ≡ true → directive_step t p (directive_of t l) (rest_of (line_words t l)) (rows_of t ls) s ≡ yes mid) × (dotted t l ≡ false → s ≡ mid)
+          → (dotted t l ≡ true → directive_step t p (directive_of t l) (rest_of (line_words t l)) (rows_of t ls) s ≡ Ok mid) × (dotted t l ≡ false → s ≡ mid)
           → (b : Bool) → dotted t l ≡ b → Reads (map (bytes_of t) (l ∷ ls)) s s'
       step mid k z true e = by mid k (directive_of t l) refl (z.0 e)
       step mid k z false e =
@@ -171,7 +172,7 @@ module _ (t a : List ℕ) (ha : Bits a) where
           (subst (λ (x : State). Reads (map (bytes_of t) ls) x s') (sym y) (k (subst HeldWired y wd)))
 
   -- the outputs at the end
-  resolved : (h : Held) (ws : List Word) (os : List Out) → resolve false t h.names ws ≡ yes os
+  resolved : (h : Held) (ws : List Word) (os : List Out) → resolve false t h.names ws ≡ Ok os
       → map (signal_value (values a h.nodes)) (map (λ (o : Output). o.wire) (map output_of os)) ≡ map (value t a h) (map (bytes_of t) ws)
   unfolding resolve
   resolved h [] os q = subst (λ (l : List Out). map (signal_value (values a h.nodes)) (map (λ (o : Output). o.wire) (map output_of l)) ≡ []) (yes_same q) refl
@@ -183,15 +184,15 @@ module _ (t a : List ℕ) (ha : Bits a) where
 
 -- ---- the theorem
 
-closed_inv : (t : List ℕ) (s : State) (c : Circuit) → finish false t s ≡ yes c → (os : List Out) × (resolve false t s.held.names s.outputs ≡ yes os) × (c ≡ record { nodes = s.held.nodes; outputs = map output_of os })
+closed_inv : (t : List ℕ) (s : State) (c : Circuit) → finish false t s ≡ Ok c → (os : List Out) × (resolve false t s.held.names s.outputs ≡ Ok os) × (c ≡ record { nodes = s.held.nodes; outputs = map output_of os })
 unfolding finish closed
 closed_inv t s c q = go (resolve false t s.held.names s.outputs) refl q
   where
-    go : (r : Try (List Out)) → resolve false t s.held.names s.outputs ≡ r → and_then r (closed s.held.nodes) ≡ yes c
-        → (os : List Out) × (resolve false t s.held.names s.outputs ≡ yes os) × (c ≡ record { nodes = s.held.nodes; outputs = map output_of os })
-    go (no e) p z = absurd (no_yes z)
-    go (yes []) p z = absurd (no_yes z)
-    go (yes (o ∷ os)) p z = (o ∷ os, p, sym (yes_same z))
+    go : (r : Try (List Out)) → resolve false t s.held.names s.outputs ≡ r → and_then r (closed s.held.nodes) ≡ Ok c
+        → (os : List Out) × (resolve false t s.held.names s.outputs ≡ Ok os) × (c ≡ record { nodes = s.held.nodes; outputs = map output_of os })
+    go (Err e) p z = absurd (no_yes z)
+    go (Ok []) p z = absurd (no_yes z)
+    go (Ok (o ∷ os)) p z = (o ∷ os, p, sym (yes_same z))
 
 no_inputs : input_count [] ≡ 0
 unfolding input_count
@@ -206,7 +207,7 @@ abbrev pub name_wire : List ℕ → Held → List ℕ → BoolWire
 name_wire t h name = wire_at (lookup t name h.names)
 
 -- a circuit that was read means what its text says: there is a wire for each name, and under every assignment of bits the text's equations hold
-pub text_means : (text : List ℕ) (j n m o : ℕ) (c : Circuit) → blif text j n m o ≡ yes c
+pub text_means : (text : List ℕ) (j n m o : ℕ) (c : Circuit) → blif text j n m o ≡ Ok c
     → (wire : List ℕ → BoolWire) × ((a : List ℕ) → Bits a → Means (logical_lines text) c.nodes (wires_out c) wire a)
 text_means text j n m o c q =
     let y = text_yes text j n m o c q in
@@ -214,8 +215,8 @@ text_means text j n m o c q =
     let e = closed_inv t y.state c y.finished in
     (name_wire t y.state.held, λ a ha. subst (λ (x : Circuit). Means (logical_lines text) x.nodes (wires_out x) (name_wire t y.state.held) a) (sym e.2) (made a ha y.state y.read e.0 e.1))
   where
-    made : (a : List ℕ) → Bits a → (s : State) → read_lines (joined_text text) (places_in n m o) false (lines 0 (joined_text text)) start ≡ yes s
-        → (os : List Out) → resolve false (joined_text text) s.held.names s.outputs ≡ yes os
+    made : (a : List ℕ) → Bits a → (s : State) → read_lines (joined_text text) (places_in n m o) false (lines 0 (joined_text text)) start ≡ Ok s
+        → (os : List Out) → resolve false (joined_text text) s.held.names s.outputs ≡ Ok os
         → Means (logical_lines text) s.held.nodes (map (λ (x : Output). x.wire) (map output_of os)) (name_wire (joined_text text) s.held) a
     made a ha s z os y =
         let t : List ℕ = joined_text text in

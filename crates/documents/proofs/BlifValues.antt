@@ -1,27 +1,26 @@
 -- The values of a circuit's nodes as nodes are added at its end, and the values of names as names are added.
 -- Assumes nothing.
+use Rattle.std.specs.Prelude.{None, Option, Some}
 use Prim.Native.Nat.{ℕ, zero, suc, ◌+◌, ◌≤◌, ◌<◌}
 use mathlib.Core.Path.{◌≡◌, refl, sym, ap, ap₂, ◌∙◌, subst}
 use mathlib.Core.Bool.{Bool, true, false, cond}
 use mathlib.Core.List.{List, [], ◌∷◌, ◌++◌, map}
-use native.Mathlib.Nat.{add-zero, zero-add}
 use native.Mathlib.Omega.{arith}
-use lib.ListN.{length, get_or, length-append, get_or-append}
-use lib.Seq.{get_or-append-add}
+use lib.ListN.{length, get_or, get_or-append}
 use Rattle.laws.specs.Stretches.{same_bytes, All}
 use Rattle.laws.proofs.Stretches.{all_append, same_eq, same_refl}
-use Rattle.laws.proofs.Bits.{bit_small}
+use Rattle.laws.proofs.Filling.{cond_both, snoc_last}
 use Rattle.circuit.specs.declared.records.BoolWire.{BoolWire}
 use Rattle.circuit.specs.declared.records.BoolWire.TheVariants.{Const}
 use Rattle.circuit.specs.declared.records.BoolNode.{BoolNode}
 use Rattle.circuit.specs.Records.{wire_of, is_cell_node}
 use Rattle.names.specs.Names.{Entry, name_of, lookup}
-use Rattle.names.specs.declared.Found.{Found}
-use Rattle.names.specs.declared.Found.TheVariants.{At, Nothing}
 use Rattle.reading.specs.Reading.{Held}
 use Rattle.reading.proofs.Sound.{Wired}
 use Rattle.runs.specs.Values.{signal_value, values_from, entry_of}
 use Rattle.runs.specs.Runs.{input_count}
+use Rattle.runs.proofs.Evaluating.{entry_small}
+use Rattle.documents.proofs.NodeValues.{next, values_snoc, length-values}
 use Rattle.documents.proofs.BlifCover.{Bits}
 
 pub bits_at : (vs : List ℕ) → Bits vs → (i : ℕ) → get_or vs i 0 < 2
@@ -35,63 +34,13 @@ module _ (a : List ℕ) where
   abbrev pub values : List BoolNode → List ℕ
   values ns = values_from entry_of a 0 [] ns
 
-  -- the value that a node has after others
-  abbrev next : ℕ → List ℕ → BoolNode → ℕ
-  next p vs n = cond (is_cell_node n) (entry_of vs n) (get_or a p 0)
-
-  values-from : (ns : List BoolNode) (p : ℕ) (vs : List ℕ) (n : BoolNode)
-      → values_from entry_of a p vs (ns ++ (n ∷ [])) ≡ values_from entry_of a p vs ns ++ (next (p + input_count ns) (values_from entry_of a p vs ns) n ∷ [])
-  unfolding values_from input_count
-  values-from [] p vs n = go (is_cell_node n)
-    where
-      go : (b : Bool) → cond b (vs ++ (entry_of vs n ∷ [])) (vs ++ (get_or a p 0 ∷ [])) ≡ vs ++ (cond b (entry_of vs n) (get_or a (p + 0) 0) ∷ [])
-      go true = refl
-      go false = ap (λ (k : ℕ). vs ++ (get_or a k 0 ∷ [])) (sym (add-zero p))
-  values-from (x ∷ ns) p vs n = go (is_cell_node x) (values-from ns p (vs ++ (entry_of vs x ∷ [])) n) (values-from ns (suc p) (vs ++ (get_or a p 0 ∷ [])) n)
-    where
-      go : (b : Bool)
-          → values_from entry_of a p (vs ++ (entry_of vs x ∷ [])) (ns ++ (n ∷ [])) ≡ values_from entry_of a p (vs ++ (entry_of vs x ∷ [])) ns ++ (next (p + input_count ns) (values_from entry_of a p (vs ++ (entry_of vs x ∷ [])) ns) n ∷ [])
-          → values_from entry_of a (suc p) (vs ++ (get_or a p 0 ∷ [])) (ns ++ (n ∷ [])) ≡ values_from entry_of a (suc p) (vs ++ (get_or a p 0 ∷ [])) ns ++ (next (suc p + input_count ns) (values_from entry_of a (suc p) (vs ++ (get_or a p 0 ∷ [])) ns) n ∷ [])
-          → cond b (values_from entry_of a p (vs ++ (entry_of vs x ∷ [])) (ns ++ (n ∷ []))) (values_from entry_of a (suc p) (vs ++ (get_or a p 0 ∷ [])) (ns ++ (n ∷ [])))
-          ≡ cond b (values_from entry_of a p (vs ++ (entry_of vs x ∷ [])) ns) (values_from entry_of a (suc p) (vs ++ (get_or a p 0 ∷ [])) ns)
-          ++ (next (p + cond b (input_count ns) (suc (input_count ns))) (cond b (values_from entry_of a p (vs ++ (entry_of vs x ∷ [])) ns) (values_from entry_of a (suc p) (vs ++ (get_or a p 0 ∷ [])) ns)) n ∷ [])
-      go true h k = h
-      go false h k =
-          let e : suc p + input_count ns ≡ p + suc (input_count ns) = omega arith in
-          k ∙ ap (λ (m : ℕ). values_from entry_of a (suc p) (vs ++ (get_or a p 0 ∷ [])) ns ++ (next m (values_from entry_of a (suc p) (vs ++ (get_or a p 0 ∷ [])) ns) n ∷ [])) e
-
-  pub values_more : (ns : List BoolNode) (n : BoolNode) → values (ns ++ (n ∷ [])) ≡ values ns ++ (next (input_count ns) (values ns) n ∷ [])
-  values_more ns n = values-from ns 0 [] n ∙ ap (λ (m : ℕ). values ns ++ (next m (values ns) n ∷ [])) (zero-add (input_count ns))
-
-  length_from : (ns : List BoolNode) (p : ℕ) (vs : List ℕ) → length (values_from entry_of a p vs ns) ≡ length vs + length ns
-  unfolding values_from
-  length_from [] p vs = sym (add-zero (length vs))
-  length_from (x ∷ ns) p vs = go (is_cell_node x) (length_from ns p (vs ++ (entry_of vs x ∷ []))) (length_from ns (suc p) (vs ++ (get_or a p 0 ∷ [])))
-    where
-      go : (b : Bool) → length (values_from entry_of a p (vs ++ (entry_of vs x ∷ [])) ns) ≡ length (vs ++ (entry_of vs x ∷ [])) + length ns
-          → length (values_from entry_of a (suc p) (vs ++ (get_or a p 0 ∷ [])) ns) ≡ length (vs ++ (get_or a p 0 ∷ [])) + length ns
-          → length (cond b (values_from entry_of a p (vs ++ (entry_of vs x ∷ [])) ns) (values_from entry_of a (suc p) (vs ++ (get_or a p 0 ∷ [])) ns)) ≡ length vs + suc (length ns)
-      go true h k = h ∙ omega (arith, length-append vs (entry_of vs x ∷ []))
-      go false h k = k ∙ omega (arith, length-append vs (get_or a p 0 ∷ []))
-
-  length-values : (ns : List BoolNode) → length (values ns) ≡ length ns
-  length-values ns = length_from ns 0 [] ∙ zero-add (length ns)
-
-  entry-bit : (vs : List ℕ) (n : BoolNode) → entry_of vs n < 2
-  unfolding entry_of
-  entry-bit vs n = bit_small _ _
-
   bits_from : Bits a → (ns : List BoolNode) (p : ℕ) (vs : List ℕ) → Bits vs → Bits (values_from entry_of a p vs ns)
   unfolding values_from
   bits_from ha [] p vs h = h
   bits_from ha (x ∷ ns) p vs h =
-      go (is_cell_node x) (bits_from ha ns p (vs ++ (entry_of vs x ∷ [])) (all_append (λ v. v < 2) vs (entry_of vs x ∷ []) h (entry-bit vs x, tt)))
-      (bits_from ha ns (suc p) (vs ++ (get_or a p 0 ∷ [])) (all_append (λ v. v < 2) vs (get_or a p 0 ∷ []) h (bits_at a ha p, tt)))
-    where
-      go : (b : Bool) → Bits (values_from entry_of a p (vs ++ (entry_of vs x ∷ [])) ns) → Bits (values_from entry_of a (suc p) (vs ++ (get_or a p 0 ∷ [])) ns)
-          → Bits (cond b (values_from entry_of a p (vs ++ (entry_of vs x ∷ [])) ns) (values_from entry_of a (suc p) (vs ++ (get_or a p 0 ∷ [])) ns))
-      go true h k = h
-      go false h k = k
+      cond_both Bits (is_cell_node x) _ _
+      (bits_from ha ns p (vs ++ entry_of vs x ∷ []) (all_append (λ v. v < 2) vs (entry_of vs x ∷ []) h (entry_small vs x, tt)))
+      (bits_from ha ns (suc p) (vs ++ get_or a p 0 ∷ []) (all_append (λ v. v < 2) vs (get_or a p 0 ∷ []) h (bits_at a ha p, tt)))
 
   -- ---- the values of wires
 
@@ -107,45 +56,42 @@ module _ (a : List ℕ) where
   wire_kept ns n zero h = refl
   wire_kept ns n (suc zero) h = refl
   wire_kept ns n (suc (suc k)) h =
-      ap (λ (l : List ℕ). get_or l k 0) (values_more ns n) ∙ get_or-append (values ns) (next (input_count ns) (values ns) n ∷ []) 0 k (omega (arith, length-values ns))
+      ap (λ (l : List ℕ). get_or l k 0) (values_snoc entry_of a ns n)
+      ∙ get_or-append (values ns) (next entry_of a (input_count ns) (values ns) n ∷ []) 0 k (omega (arith, length-values entry_of a ns))
 
-  pub wire_new : (ns : List BoolNode) (n : BoolNode) → wire_value (ns ++ (n ∷ [])) (length ns + 2) ≡ next (input_count ns) (values ns) n
+  pub wire_new : (ns : List BoolNode) (n : BoolNode) → wire_value (ns ++ (n ∷ [])) (length ns + 2) ≡ next entry_of a (input_count ns) (values ns) n
   wire_new ns n =
-      let e : length ns + 2 ≡ suc (suc (length ns)) = omega arith in
-      let k : length ns ≡ length (values ns) + 0 = omega (arith, length-values ns) in
-      ap (λ (x : ℕ). signal_value (values (ns ++ (n ∷ []))) (wire_of x)) e
-      ∙ ap₂ (λ (l : List ℕ) (i : ℕ). get_or l i 0) (values_more ns n) k
-      ∙ get_or-append-add (values ns) (next (input_count ns) (values ns) n ∷ []) 0 0
+      let e : length ns + 2 ≡ suc (suc (length (values ns))) = omega (arith, length-values entry_of a ns) in
+      rw e (ap (λ (l : List ℕ). get_or l (length (values ns)) 0) (values_snoc entry_of a ns n) ∙ snoc_last (values ns) (next entry_of a (input_count ns) (values ns) n))
 
 -- ---- names
 
-abbrev pub wire_at : Found → BoolWire
-wire_at (At x) = wire_of x
-wire_at Nothing = Const false
+abbrev pub wire_at : Option ℕ → BoolWire
+wire_at (Some x) = wire_of x
+wire_at None = Const false
 
 module _ (t : List ℕ) where
-  pub lookup_below : (m : ℕ) (bytes : List ℕ) (es : List Entry) (x : ℕ) → Wired m es → lookup t bytes es ≡ At x → x < m + 2
+  pub lookup_below : (m : ℕ) (bytes : List ℕ) (es : List Entry) (x : ℕ) → Wired m es → lookup t bytes es ≡ Some x → x < m + 2
   unfolding lookup
-  lookup_below m bytes [] x w q = let z : ◌≡◌ {A = ℕ} 0 1 = cc in absurd (omega arith)
+  lookup_below m bytes [] x w q = cc
   lookup_below m bytes (e ∷ es) x w q = go (same_bytes (name_of t e) bytes) q (lookup_below m bytes es x w.1)
     where
-      go : (b : Bool) → cond b (At e.wire) (lookup t bytes es) ≡ At x → (lookup t bytes es ≡ At x → x < m + 2) → x < m + 2
+      go : (b : Bool) → cond b (Some e.wire) (lookup t bytes es) ≡ Some x → (lookup t bytes es ≡ Some x → x < m + 2) → x < m + 2
       go true r later = let s : e.wire ≡ x = cc in omega (arith, s, w.0)
       go false r later = later r
 
-  pub lookup_new : (e : Entry) (es : List Entry) → lookup t (name_of t e) (e ∷ es) ≡ At e.wire
+  pub lookup_new : (e : Entry) (es : List Entry) → lookup t (name_of t e) (e ∷ es) ≡ Some e.wire
   unfolding lookup
   lookup_new e es = rw (same_refl (name_of t e))
 
-  pub lookup-kept : (e : Entry) (es : List Entry) (bytes : List ℕ) (x : ℕ) → lookup t (name_of t e) es ≡ Nothing → lookup t bytes es ≡ At x → lookup t bytes (e ∷ es) ≡ At x
+  pub lookup-kept : (e : Entry) (es : List Entry) (bytes : List ℕ) (x : ℕ) → lookup t (name_of t e) es ≡ None → lookup t bytes es ≡ Some x → lookup t bytes (e ∷ es) ≡ Some x
   unfolding lookup
   lookup-kept e es bytes x new q = go (same_bytes (name_of t e) bytes) refl
     where
-      go : (b : Bool) → same_bytes (name_of t e) bytes ≡ b → cond b (At e.wire) (lookup t bytes es) ≡ At x
+      go : (b : Bool) → same_bytes (name_of t e) bytes ≡ b → cond b (Some e.wire) (lookup t bytes es) ≡ Some x
       go true r =
-          let s : lookup t bytes es ≡ Nothing = subst (λ (y : List ℕ). lookup t y es ≡ Nothing) (same_eq (name_of t e) bytes r) new in
-          let z : ◌≡◌ {A = ℕ} 0 1 = cc in
-          absurd (omega arith)
+          let s : lookup t bytes es ≡ None = subst (λ (y : List ℕ). lookup t y es ≡ None) (same_eq (name_of t e) bytes r) new in
+          cc
       go false r = q
 
 -- ---- what has been read, and more of it
@@ -156,11 +102,11 @@ module _ (t a : List ℕ) where
   value h name = signal_value (values a h.nodes) (wire_at (lookup t name h.names))
 
   abbrev pub Known : Held → List ℕ → Type 0
-  Known h name = (x : ℕ) × (lookup t name h.names ≡ At x)
+  Known h name = (x : ℕ) × (lookup t name h.names ≡ Some x)
 
   -- every name keeps its wire, and every wire its value
   pub record Grows (h h' : Held) : Type 0 where
-    pub names : (name : List ℕ) (x : ℕ) → lookup t name h.names ≡ At x → lookup t name h'.names ≡ At x
+    pub names : (name : List ℕ) (x : ℕ) → lookup t name h.names ≡ Some x → lookup t name h'.names ≡ Some x
     pub wires : (x : ℕ) → x < length h.nodes + 2 → wire_value a h'.nodes x ≡ wire_value a h.nodes x
     pub more : length h.nodes ≤ length h'.nodes
 
@@ -177,7 +123,7 @@ module _ (t a : List ℕ) where
   pub known_on : (h h' : Held) (name : List ℕ) → Grows h h' → Known h name → Known h' name
   known_on h h' name g k = (k.0, g.names name k.0 k.1)
 
-  pub value_at : (h : Held) (name : List ℕ) (x : ℕ) → lookup t name h.names ≡ At x → value h name ≡ wire_value a h.nodes x
+  pub value_at : (h : Held) (name : List ℕ) (x : ℕ) → lookup t name h.names ≡ Some x → value h name ≡ wire_value a h.nodes x
   value_at h name x q = rw q
 
   pub value_kept : (h h' : Held) (name : List ℕ) → Wired (length h.nodes) h.names → Grows h h' → Known h name → value h' name ≡ value h name

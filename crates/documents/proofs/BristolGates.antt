@@ -1,8 +1,10 @@
 -- A row that the reader accepts and the page speaks of: the wires follow the page's bits.
 -- Assumes nothing.
+use Rattle.std.specs.Prelude.{Err, Ok}
 use Prim.Native.Nat.{ℕ, zero, suc, ◌+◌, ◌-◌, ◌*◌, ◌%◌, ◌<◌}
 use mathlib.Core.Path.{◌≡◌, refl, sym, ap, ap₂, ◌∙◌, subst}
-use mathlib.Core.Bool.{Bool, true, false, cond, ◌||◌}
+use mathlib.Core.Logic.{⊎_elim}
+use mathlib.Core.Bool.{Bool, true, false, cond}
 use mathlib.Core.List.{List, [], ◌∷◌, ◌++◌, map, append-nil}
 use mathlib.Core.Option.{Option, none, some}
 use native.Mathlib.Omega.{arith}
@@ -10,20 +12,21 @@ use lib.Dec.{eqb, ltb}
 use lib.ListN.{length, get_or, set, take, drop}
 use borrow.Author.Tests.{eqb-true, lt-leb}
 use Rattle.laws.specs.Stretches.{same_bytes}
+use Rattle.laws.proofs.Rows.{or_cases}
 use Rattle.laws.proofs.Stretches.{same_eq}
 use Rattle.laws.proofs.Filling.{length_snoc, snoc_last}
 use Rattle.circuit.specs.declared.refusals.Refusal.TheVariants.{Unknown}
 use Rattle.circuit.specs.declared.records.BoolWire.{BoolWire}
 use Rattle.circuit.specs.declared.records.BoolWire.TheVariants.{Node}
 use Rattle.circuit.specs.declared.records.BoolNode.{BoolNode}
-use Rattle.circuit.specs.Refusals.{no, yes, and_then}
+use Rattle.circuit.specs.Refusals.{and_then}
 use Rattle.circuit.specs.Records.{wire_word, no_wire, is_cell_node, wires_of}
 use Rattle.circuit.proofs.Tries.{no_yes, yes_same, need-yes}
 use Rattle.cells.specs.Cells.{entry, index_from}
-use Rattle.cells.proofs.Rule.{entry-bit}
 use Rattle.text.specs.Bytes.{upper}
 use Rattle.text.specs.Numbers.{parse_usize, parse_each, and_then as then}
-use Rattle.runs.specs.Values.{signal_value, entry_of}
+use Rattle.runs.specs.Values.{entry_of}
+use Rattle.runs.proofs.Evaluating.{entry_small}
 use Rattle.bristol_rows.specs.Operation.{is_alias, inverts, two_input_table, truth_table, Op, same, table, operation}
 use Rattle.bristol_rows.specs.Row.{wire_number, drivers, cell_node, Gate, alias, cell, gate, row}
 use Rattle.bristol_rows.proofs.Accepted.{after, Accepts, accepted}
@@ -46,14 +49,11 @@ nums_are f [] ns h =
     rw e
 nums_are f (w ∷ ws) ns h = go (parse_usize w) refl (parse_each ws) refl h (nums_are f ws)
   where
-    never : {B : Type 0} → ◌≡◌ {A = ℕ} 0 1 → B
-    never z = absurd (omega arith)
-
     go : (x : Option ℕ) → parse_usize w ≡ x → (y : Option (List ℕ)) → parse_each ws ≡ y → then x (λ n. then y (λ ms. some (n ∷ ms))) ≡ some ns
         → ((ms : List ℕ) → parse_each ws ≡ some ms → map (λ (w : List ℕ). f (num w)) ws ≡ map f ms)
         → f (num w) ∷ map (λ (w : List ℕ). f (num w)) ws ≡ map f ns
-    go none p y q h ih = never (cc)
-    go (some n) p none q h ih = never (cc)
+    go none p y q h ih = cc
+    go (some n) p none q h ih = cc
     go (some n) p (some ms) q h ih =
         let e : ns ≡ n ∷ ms = cc in
         rw e (ap₂ (λ (a : ℕ) (l : List ℕ). a ∷ l) (ap f (num-is w n p)) (ih ms q))
@@ -64,34 +64,34 @@ record Made (n m : ℕ) (op is : Op) : Type 0 where
   count : n ≡ m
   op_is : is ≡ op
 
-xor_made : (n : ℕ) (op : Op) → operation (88 ∷ 79 ∷ 82 ∷ []) n ≡ yes op → Made n 2 op (table 6)
+xor_made : (n : ℕ) (op : Op) → operation (88 ∷ 79 ∷ 82 ∷ []) n ≡ Ok op → Made n 2 op (table 6)
 unfolding operation is_alias truth_table inverts two_input_table upper same_bytes
 xor_made n op h = go (eqb n 1) (eqb n 2) refl h
   where
-    go : (t u : Bool) → eqb n 2 ≡ u → and_then (cond t (no Unknown) (cond u (yes 6) (no Unknown))) (λ t. yes (table t)) ≡ yes op → Made n 2 op (table 6)
+    go : (t u : Bool) → eqb n 2 ≡ u → and_then (cond t (Err Unknown) (cond u (Ok 6) (Err Unknown))) (λ t. Ok (table t)) ≡ Ok op → Made n 2 op (table 6)
     go true u q h = absurd (no_yes h)
     go false true q h = record { count = eqb-true n 2 q; op_is = yes_same h }
     go false false q h = absurd (no_yes h)
 
-and_made : (n : ℕ) (op : Op) → operation (65 ∷ 78 ∷ 68 ∷ []) n ≡ yes op → Made n 2 op (table 8)
+and_made : (n : ℕ) (op : Op) → operation (65 ∷ 78 ∷ 68 ∷ []) n ≡ Ok op → Made n 2 op (table 8)
 unfolding operation is_alias truth_table inverts two_input_table upper same_bytes
 and_made n op h = go (eqb n 1) (eqb n 2) refl h
   where
-    go : (t u : Bool) → eqb n 2 ≡ u → and_then (cond t (no Unknown) (cond u (yes 8) (no Unknown))) (λ t. yes (table t)) ≡ yes op → Made n 2 op (table 8)
+    go : (t u : Bool) → eqb n 2 ≡ u → and_then (cond t (Err Unknown) (cond u (Ok 8) (Err Unknown))) (λ t. Ok (table t)) ≡ Ok op → Made n 2 op (table 8)
     go true u q h = absurd (no_yes h)
     go false true q h = record { count = eqb-true n 2 q; op_is = yes_same h }
     go false false q h = absurd (no_yes h)
 
-inv_made : (n : ℕ) (op : Op) → operation (73 ∷ 78 ∷ 86 ∷ []) n ≡ yes op → Made n 1 op (table 1)
+inv_made : (n : ℕ) (op : Op) → operation (73 ∷ 78 ∷ 86 ∷ []) n ≡ Ok op → Made n 1 op (table 1)
 unfolding operation is_alias truth_table inverts two_input_table upper same_bytes
 inv_made n op h = go (eqb n 1) (eqb n 2) refl h
   where
-    go : (t u : Bool) → eqb n 1 ≡ t → and_then (cond t (yes 1) (cond u (no Unknown) (no Unknown))) (λ t. yes (table t)) ≡ yes op → Made n 1 op (table 1)
+    go : (t u : Bool) → eqb n 1 ≡ t → and_then (cond t (Ok 1) (cond u (Err Unknown) (Err Unknown))) (λ t. Ok (table t)) ≡ Ok op → Made n 1 op (table 1)
     go true u q h = record { count = eqb-true n 1 q; op_is = yes_same h }
     go false true q h = absurd (no_yes h)
     go false false q h = absurd (no_yes h)
 
-eqw_made : (n : ℕ) (op : Op) → operation (69 ∷ 81 ∷ 87 ∷ []) n ≡ yes op → Made n 1 op same
+eqw_made : (n : ℕ) (op : Op) → operation (69 ∷ 81 ∷ 87 ∷ []) n ≡ Ok op → Made n 1 op same
 unfolding operation is_alias upper same_bytes
 eqw_made n op h =
     let a = need-yes (eqb n 1) _ _ op h in
@@ -125,10 +125,6 @@ inv_bit zero p = refl
 inv_bit (suc zero) p = refl
 inv_bit (suc (suc x)) p = absurd (omega arith)
 
-entry_small : (l : List ℕ) (n : BoolNode) → entry_of l n < 2
-unfolding entry_of
-entry_small l n = entry-bit n.table (index_from 0 (map (signal_value l) (wires_of n)))
-
 -- ---- the drivers of one or two wires
 
 record One (ins : List ℕ) (s : State) (bits : List ℕ) (xs : List ℕ) (ds : List BoolWire) : Type 0 where
@@ -149,7 +145,7 @@ record Two (ins : List ℕ) (s : State) (bits : List ℕ) (xs : List ℕ) (ds : 
   drives_too : Drives ins s.nodes e (get_or bits y 0)
 
 module _ (ins : List ℕ) (s : State) (bits : List ℕ) (f : Follows ins s bits) where
-  one_driven : (xs : List ℕ) (ds : List BoolWire) → drivers s.wires (map wire_number xs) ≡ yes ds → length xs ≡ 1 → One ins s bits xs ds
+  one_driven : (xs : List ℕ) (ds : List BoolWire) → drivers s.wires (map wire_number xs) ≡ Ok ds → length xs ≡ 1 → One ins s bits xs ds
   one_driven [] ds h l = absurd (omega arith)
   one_driven (x ∷ []) ds h l =
       let a = front s.wires x [] ds h in
@@ -162,7 +158,7 @@ module _ (ins : List ℕ) (s : State) (bits : List ℕ) (f : Follows ins s bits)
       }
   one_driven (x ∷ y ∷ xs) ds h l = absurd (omega arith)
 
-  two_driven : (xs : List ℕ) (ds : List BoolWire) → drivers s.wires (map wire_number xs) ≡ yes ds → length xs ≡ 2 → Two ins s bits xs ds
+  two_driven : (xs : List ℕ) (ds : List BoolWire) → drivers s.wires (map wire_number xs) ≡ Ok ds → length xs ≡ 2 → Two ins s bits xs ds
   two_driven [] ds h l = absurd (omega arith)
   two_driven (x ∷ []) ds h l = absurd (omega arith)
   two_driven (x ∷ y ∷ []) ds h l =
@@ -182,20 +178,20 @@ module _ (ins : List ℕ) (s : State) (bits : List ℕ) (f : Follows ins s bits)
 
   -- ---- stored
 
-  drive-yes : (out : ℕ) (w : BoolWire) (ns : List BoolNode) (s' : State) → drive (wire_number out) w ns s.wires ≡ yes s'
+  drive-yes : (out : ℕ) (w : BoolWire) (ns : List BoolNode) (s' : State) → drive (wire_number out) w ns s.wires ≡ Ok s'
       → record { nodes = ns; wires = set s.wires out (wire_word w + 1) } ≡ s'
   unfolding drive
   drive-yes out w ns s' h = yes_same (need-yes (eqb (get_or s.wires out 0) 0) _ _ s' h).1
 
   follow_alias : (out : ℕ) (w : BoolWire) (v : ℕ) (room : ℕ) (s' : State) → out < length s.wires → v < 2 → Drives ins s.nodes w v
-      → store room (alias (wire_number out) w) s ≡ yes s' → Follows ins s' (set bits out v)
+      → store room (alias (wire_number out) w) s ≡ Ok s' → Follows ins s' (set bits out v)
   unfolding store
   follow_alias out w v room s' l b d h =
       subst (λ (z : State). Follows ins z (set bits out v)) (drive-yes out w s.nodes s' h)
       (follow_set ins s bits f s.nodes [] (sym (append-nil (node_bits ins s.nodes))) (omega arith) out l w v b d)
 
   follow_cell : (out : ℕ) (n : BoolNode) (v : ℕ) (room : ℕ) (s' : State) → out < length s.wires → is_cell_node n ≡ true → entry_of (node_bits ins s.nodes) n ≡ v
-      → store room (cell (wire_number out) n) s ≡ yes s' → Follows ins s' (set bits out v)
+      → store room (cell (wire_number out) n) s ≡ Ok s' → Follows ins s' (set bits out v)
   unfolding store store_cell
   follow_cell out n v room s' l c e h =
       let ns : List BoolNode = s.nodes in
@@ -211,12 +207,8 @@ module _ (ins : List ℕ) (s : State) (bits : List ℕ) (f : Follows ins s bits)
 
 -- ---- a row
 
-or_cases : {A : Type 0} (p q : Bool) → p || q ≡ true → (p ≡ true → A) → (q ≡ true → A) → A
-or_cases true q h f g = f refl
-or_cases false q h f g = g h
-
 module _ (ins : List ℕ) (s : State) (bits : List ℕ) (f : Follows ins s bits) (room : ℕ) (ws : List (List ℕ)) (g : Gate) (s' : State)
-    (r : Accepts s.wires ws g) (h : store room g s ≡ yes s')
+    (r : Accepts s.wires ws g) (h : store room g s ≡ Ok s')
   where
     inputs_are : num (get_or ws 0 []) ≡ r.inputs
     inputs_are = num-is (get_or ws 0 []) r.inputs r.inputs_is
@@ -239,11 +231,11 @@ module _ (ins : List ℕ) (s : State) (bits : List ℕ) (f : Follows ins s bits)
         ap₂ (set bits) (num-is (output_word ws) r.out (ap parse_usize out_word ∙ r.out_is))
         (ap₂ gate_bit e (nums_are (λ n. get_or bits n 0) (input_words ws) r.ins (ap parse_each words_are ∙ r.ins_are)))
 
-    op_of : (name : List ℕ) → name_word ws ≡ name → operation name (length r.ins) ≡ yes r.op
-    op_of name e = subst (λ (z : List ℕ). operation z (length r.ins) ≡ yes r.op) (sym name-word ∙ e) r.op_is
+    op_of : (name : List ℕ) → name_word ws ≡ name → operation name (length r.ins) ≡ Ok r.op
+    op_of name e = subst (λ (z : List ℕ). operation z (length r.ins) ≡ Ok r.op) (sym name-word ∙ e) r.op_is
 
-    gate-of : (op : Op) → op ≡ r.op → store room (gate (wire_number r.out) r.ds op) s ≡ yes s'
-    gate-of op e = subst (λ (z : Op). store room (gate (wire_number r.out) r.ds z) s ≡ yes s') (sym e) (subst (λ (z : Gate). store room z s ≡ yes s') (sym r.is) h)
+    gate-of : (op : Op) → op ≡ r.op → store room (gate (wire_number r.out) r.ds op) s ≡ Ok s'
+    gate-of op e = subst (λ (z : Op). store room (gate (wire_number r.out) r.ds z) s ≡ Ok s') (sym e) (subst (λ (z : Gate). store room z s ≡ Ok s') (sym r.is) h)
 
     told : (name : List ℕ) → name_word ws ≡ name → (v : ℕ) → gate_bit name (map (λ (n : ℕ). get_or bits n 0) r.ins) ≡ v → Follows ins s' (set bits r.out v) → Follows ins s' (gate_step bits ws)
     told name e v q x = subst (Follows ins s') (sym (step_is name e ∙ ap (set bits r.out) q)) x
@@ -254,7 +246,7 @@ module _ (ins : List ℕ) (s : State) (bits : List ℕ) (f : Follows ins s bits)
         let m = eqw_made (length r.ins) r.op (op_of (69 ∷ 81 ∷ 87 ∷ []) e) in
         let d = one_driven ins s bits f r.ins r.ds r.ds_are m.count in
         told (69 ∷ 81 ∷ 87 ∷ []) e (get_or bits d.x 0) (ap (λ (l : List ℕ). gate_bit (69 ∷ 81 ∷ 87 ∷ []) (map (λ (n : ℕ). get_or bits n 0) l)) d.x_is)
-        (follow_alias ins s bits f r.out d.d (get_or bits d.x 0) room s' r.below (f.known d.x) d.drives (subst (λ (z : List BoolWire). store room (alias (wire_number r.out) (get_or z 0 no_wire)) s ≡ yes s') d.d_is (gate-of same m.op_is)))
+        (follow_alias ins s bits f r.out d.d (get_or bits d.x 0) room s' r.below (f.known d.x) d.drives (subst (λ (z : List BoolWire). store room (alias (wire_number r.out) (get_or z 0 no_wire)) s ≡ Ok s') d.d_is (gate-of same m.op_is)))
 
     -- the value of a cell on its drivers' bits
     one_entry : (t : ℕ) (d : One ins s bits r.ins r.ds) → entry_of (node_bits ins s.nodes) (cell_node (wire_number r.out) t r.ds) ≡ entry t (index_from 0 (get_or bits d.x 0 ∷ []))
@@ -298,12 +290,13 @@ module _ (ins : List ℕ) (s : State) (bits : List ℕ) (f : Follows ins s bits)
         (cell_follows 8 (get_or bits d.x 0 * get_or bits d.y 0) m.op_is (two_entry 8 d ∙ and-bit (get_or bits d.x 0) (get_or bits d.y 0) (f.known d.x) (f.known d.y)))
 
 pub step_follows : (ins : List ℕ) (s : State) (bits : List ℕ) → Follows ins s bits → (room : ℕ) (ws : List (List ℕ)) (g : Gate) (s' : State)
-    → row s.wires ws ≡ yes g → store room g s ≡ yes s' → is_page_gate ws ≡ true → Follows ins s' (gate_step bits ws)
+    → row s.wires ws ≡ Ok g → store room g s ≡ Ok s' → is_page_gate ws ≡ true → Follows ins s' (gate_step bits ws)
 unfolding is_page_gate
 step_follows ins s bits f room ws g s' r h k =
     let a = accepted s.wires ws g r in
     let n = name_word ws in
-    or_cases (same_bytes n (88 ∷ 79 ∷ 82 ∷ [])) _ k (λ e. follows_xor ins s bits f room ws g s' a h (same_eq n _ e))
-    (λ k. or_cases (same_bytes n (65 ∷ 78 ∷ 68 ∷ [])) _ k (λ e. follows_and ins s bits f room ws g s' a h (same_eq n _ e))
-    (λ k. or_cases (same_bytes n (73 ∷ 78 ∷ 86 ∷ [])) _ k (λ e. follows_inv ins s bits f room ws g s' a h (same_eq n _ e))
-    (λ e. follows_eqw ins s bits f room ws g s' a h (same_eq n _ e))))
+    ⊎_elim (λ e. follows_xor ins s bits f room ws g s' a h (same_eq n _ e))
+    (λ k. ⊎_elim (λ e. follows_and ins s bits f room ws g s' a h (same_eq n _ e))
+    (λ k. ⊎_elim (λ e. follows_inv ins s bits f room ws g s' a h (same_eq n _ e)) (λ e. follows_eqw ins s bits f room ws g s' a h (same_eq n _ e)) (or_cases (same_bytes n (73 ∷ 78 ∷ 86 ∷ [])) _ k))
+    (or_cases (same_bytes n (65 ∷ 78 ∷ 68 ∷ [])) _ k))
+    (or_cases (same_bytes n (88 ∷ 79 ∷ 82 ∷ [])) _ k)

@@ -1,5 +1,6 @@
 -- The circuit that the reader of Bristol texts gives has the outputs that the page says, under every assignment of bits.
 -- Assumes nothing.
+use Rattle.std.specs.Prelude.{Ok}
 use Prim.Native.Nat.{ℕ, zero, suc, ◌+◌, ◌-◌, ◌≤◌, ◌<◌}
 use mathlib.Core.Path.{◌≡◌, refl, sym, ap, ◌∙◌, subst}
 use mathlib.Core.Bool.{Bool, true, false, cond}
@@ -10,13 +11,13 @@ use lib.Dec.{eqb, leb, ltb}
 use lib.ListN.{length, get_or, drop, replicate, length-append, length-set, length-replicate, drop_of_length-le}
 use lib.Seq.{drop-cons}
 use borrow.Author.Tests.{ltb-true, leb-true}
+use Rattle.std.proofs.lemmas.List.{drop-map, map-id}
 use Rattle.laws.specs.Areas.{capacity}
 use Rattle.laws.specs.Sums.{sum}
 use Rattle.laws.proofs.Tests.{and-true}
 use Rattle.circuit.specs.declared.refusals.Refusal.TheVariants.{HeaderMismatch}
 use Rattle.circuit.specs.declared.records.BoolWire.{BoolWire}
 use Rattle.circuit.specs.declared.records.Output.{Output}
-use Rattle.circuit.specs.Refusals.{yes}
 use Rattle.circuit.specs.Circuits.{Circuit}
 use Rattle.circuit.proofs.Tries.{no_yes, yes_same, then_yes, need-yes}
 use Rattle.text.specs.Bytes.{is_ascii}
@@ -37,7 +38,7 @@ use Rattle.documents.proofs.BristolGates.{nums_are, step_follows}
 
 -- ---- the rows in turn
 
-rows_follow : (ins : List ℕ) (room : ℕ) (ls : List (List ℕ)) (s s' : State) (bits : List ℕ) → Follows ins s bits → rows room ls s ≡ yes s' → all_page_gates ls ≡ true
+rows_follow : (ins : List ℕ) (room : ℕ) (ls : List (List ℕ)) (s s' : State) (bits : List ℕ) → Follows ins s bits → rows room ls s ≡ Ok s' → all_page_gates ls ≡ true
     → Follows ins s' (gate_steps bits ls)
 unfolding rows row_step gate_steps all_page_gates
 rows_follow ins room [] s s' bits f h k = subst (λ (z : State). Follows ins z bits) (yes_same h) f
@@ -63,7 +64,7 @@ signals_snoc vs [] o = refl
 signals_snoc vs (p ∷ os) o = ap (λ (l : List ℕ). signal_value vs p.wire ∷ l) (signals_snoc vs os o)
 
 outputs_follow : (ins : List ℕ) (s : State) (bits : List ℕ) → Follows ins s bits → (room n k : ℕ) (os os' : List Output) → n + k ≡ length s.wires
-    → outputs_from room k (drop k s.wires) os ≡ yes os' → signals (node_bits ins s.nodes) (wires os') ≡ signals (node_bits ins s.nodes) (wires os) ++ drop k bits
+    → outputs_from room k (drop k s.wires) os ≡ Ok os' → signals (node_bits ins s.nodes) (wires os') ≡ signals (node_bits ins s.nodes) (wires os) ++ drop k bits
 unfolding outputs_from
 outputs_follow ins s bits f room zero k os os' e h =
     let l : length s.wires ≤ k = omega arith in
@@ -87,7 +88,7 @@ outputs_follow ins s bits f room (suc n) k os os' e h =
 
 -- ---- the body
 
-body_follows : (nr or : ℕ) (h : Head) (ls : List (List ℕ)) (c : Circuit) → body nr or h ls ≡ yes c → h.inputs + h.outputs ≤ h.wires → all_page_gates ls ≡ true
+body_follows : (nr or : ℕ) (h : Head) (ls : List (List ℕ)) (c : Circuit) → body nr or h ls ≡ Ok c → h.inputs + h.outputs ≤ h.wires → all_page_gates ls ≡ true
     → (ins : List ℕ) → length ins ≡ h.inputs → Known ins
     → evaluated c.nodes (map (λ (o : Output). o.wire) c.outputs) ins ≡ drop (h.wires - h.outputs) (gate_steps (ins ++ replicate (h.wires - length ins) 0) ls)
 unfolding body evaluated node_bits wires signals
@@ -112,29 +113,17 @@ record Counted (ls : List (List ℕ)) (h : Head) : Type 0 where
   outputs_are : output_bits ls ≡ h.outputs
   fits : h.inputs + h.outputs ≤ h.wires
 
-grouped_sum : (line ns : List ℕ) (n : ℕ) → parse_each (split_whitespace line) ≡ some ns → or_refuse HeaderMismatch (grouped_wire_count ns) ≡ yes n → sum (widths line) ≡ n
+grouped_sum : (line ns : List ℕ) (n : ℕ) → parse_each (split_whitespace line) ≡ some ns → or_refuse HeaderMismatch (grouped_wire_count ns) ≡ Ok n → sum (widths line) ≡ n
 unfolding grouped_wire_count widths
 grouped_sum line [] n e h = absurd (no_yes h)
 grouped_sum line (g ∷ ws) n e h =
-    ap sum (drop-map 1 (split_whitespace line) ∙ ap (drop 1) (nums_are (λ k. k) (split_whitespace line) (g ∷ ws) e ∙ same ws)) ∙ go (eqb g (length ws)) h
+    ap sum (sym (drop-map num 1 (split_whitespace line)) ∙ ap (drop 1) (nums_are (λ k. k) (split_whitespace line) (g ∷ ws) e ∙ map-id (g ∷ ws))) ∙ go (eqb g (length ws)) h
   where
-    drop-map : (k : ℕ) (l : List (List ℕ)) → map num (drop k l) ≡ drop k (map num l)
-    drop-map zero l = refl
-    drop-map (suc k) [] = refl
-    drop-map (suc k) (x ∷ xs) = drop-map k xs
-
-    same : (l : List ℕ) → map (λ (k : ℕ). k) (g ∷ l) ≡ g ∷ l
-    same l = ap (λ (m : List ℕ). g ∷ m) (all l)
-      where
-        all : (m : List ℕ) → map (λ (k : ℕ). k) m ≡ m
-        all [] = refl
-        all (x ∷ xs) = ap (λ (z : List ℕ). x ∷ z) (all xs)
-
-    go : (t : Bool) → or_refuse HeaderMismatch (cond t (some (sum ws)) none) ≡ yes n → sum ws ≡ n
+    go : (t : Bool) → or_refuse HeaderMismatch (cond t (some (sum ws)) none) ≡ Ok n → sum ws ≡ n
     go true h = yes_same h
     go false h = absurd (no_yes h)
 
-two_counted : (a b c : List ℕ) (rest : List (List ℕ)) (ns : List ℕ) (h : Head) → parse_each (split_whitespace a) ≡ some ns → two_numbers ns (λ g w. group_lines g w b c) ≡ yes h
+two_counted : (a b c : List ℕ) (rest : List (List ℕ)) (ns : List ℕ) (h : Head) → parse_each (split_whitespace a) ≡ some ns → two_numbers ns (λ g w. group_lines g w b c) ≡ Ok h
     → Counted (a ∷ b ∷ c ∷ rest) h
 unfolding two_numbers group_lines groups wire_count input_bits output_bits
 two_counted a b c rest [] h e k = absurd (no_yes k)
@@ -157,11 +146,11 @@ two_counted a b c rest (g ∷ w ∷ []) h e k =
     second ws e = at ws (nums_are (λ k. k) ws (g ∷ w ∷ []) e)
       where
         at : (ws : List (List ℕ)) → map (λ (x : List ℕ). num x) ws ≡ g ∷ w ∷ [] → num (get_or ws 1 []) ≡ w
-        at [] e = let z : ◌≡◌ {A = ℕ} 0 1 = cc in absurd (omega arith)
-        at (x ∷ []) e = let z : ◌≡◌ {A = ℕ} 0 1 = cc in absurd (omega arith)
+        at [] e = cc
+        at (x ∷ []) e = cc
         at (x ∷ y ∷ xs) e = cc
 
-counted : (ls : List (List ℕ)) (h : Head) → header ls ≡ yes h → Counted ls h
+counted : (ls : List (List ℕ)) (h : Head) → header ls ≡ Ok h → Counted ls h
 unfolding header
 counted [] h e = absurd (no_yes e)
 counted (a ∷ []) h e = absurd (no_yes e)
@@ -182,7 +171,7 @@ pub record AsMeant (text : List ℕ) (c : Circuit) : Type 0 where
   pub evaluates : (ins : List ℕ) → length ins ≡ input_bits (kept_lines text) → Known ins → evaluated c.nodes (map (λ (o : Output). o.wire) c.outputs) ins ≡ meaning text ins
   pub stores : (ins : List ℕ) → length ins ≡ input_bits (kept_lines text) → Known ins → storage_outputs c.nodes (map (λ (o : Output). o.wire) c.outputs) ins ≡ meaning text ins
 
-pub bristol_means : (text : List ℕ) (nodes outputs wires : ℕ) (c : Circuit) → bristol_circuit text nodes outputs wires ≡ yes c → read_alike text ≡ true → AsMeant text c
+pub bristol_means : (text : List ℕ) (nodes outputs wires : ℕ) (c : Circuit) → bristol_circuit text nodes outputs wires ≡ Ok c → read_alike text ≡ true → AsMeant text c
 unfolding bristol_circuit circuit
 bristol_means text nodes outputs wires c e alike =
     let p = need-yes (leb (length text) 1048576) _ _ c e in

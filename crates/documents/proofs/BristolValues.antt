@@ -2,9 +2,9 @@
 -- Assumes nothing.
 use Prim.Native.Nat.{ℕ, zero, suc, ◌+◌, ◌-◌, ◌≤◌, ◌<◌}
 use mathlib.Core.Path.{◌≡◌, refl, sym, ap, ◌∙◌, subst}
-use mathlib.Core.Bool.{Bool, true, false, cond}
+use mathlib.Core.Bool.{Bool, true, false}
 use mathlib.Core.List.{List, [], ◌∷◌, ◌++◌, append_assoc, append-nil}
-use native.Mathlib.Nat.{add-zero, zero-add}
+use native.Mathlib.Nat.{zero-add}
 use native.Mathlib.Omega.{arith}
 use lib.Dec.{eqb, ltb}
 use lib.ListN.{length, get_or, set, length-append, length-set, length-replicate, replicate, get_or-append}
@@ -12,7 +12,6 @@ use lib.Seq.{get_or-set_same, get_or-set_other}
 use borrow.Author.Tests.{eqb-true, eqb-false, ltb-true, ltb-false, leb-false, lt-leb}
 use Rattle.laws.specs.Areas.{up_from}
 use Rattle.laws.proofs.Areas.{length_up}
-use Rattle.laws.proofs.Filling.{length_snoc}
 use Rattle.laws.proofs.Storing.{up_at}
 use Rattle.laws.proofs.Sums.{front_at, past_front}
 use Rattle.circuit.specs.declared.records.BoolWire.{BoolWire}
@@ -25,36 +24,11 @@ use Rattle.circuit.proofs.Checks.{below_more}
 use Rattle.runs.specs.Values.{signal_value, values_from, entry_of}
 use Rattle.bristol_rows.specs.declared.answers.Head.{Head}
 use Rattle.bristol.specs.Bristol.{State, input_node, input_slot, start}
+use Rattle.documents.proofs.NodeValues.{values_snoc, length-values}
 
--- ---- the values of nodes one after the other
+-- ---- the values of nodes
 
 module _ (rule : List ℕ → BoolNode → ℕ) (a : List ℕ) where
-  values_snoc : (ns : List BoolNode) (p : ℕ) (vs : List ℕ) (n : BoolNode) → is_cell_node n ≡ true
-      → values_from rule a p vs (ns ++ (n ∷ [])) ≡ values_from rule a p vs ns ++ (rule (values_from rule a p vs ns) n ∷ [])
-  unfolding values_from
-  values_snoc [] p vs n e = rw e
-  values_snoc (m ∷ ns) p vs n e = go (is_cell_node m) (values_snoc ns p (vs ++ rule vs m ∷ []) n e) (values_snoc ns (suc p) (vs ++ get_or a p 0 ∷ []) n e)
-    where
-      go : (t : Bool)
-          → values_from rule a p (vs ++ rule vs m ∷ []) (ns ++ (n ∷ [])) ≡ values_from rule a p (vs ++ rule vs m ∷ []) ns ++ (rule (values_from rule a p (vs ++ rule vs m ∷ []) ns) n ∷ [])
-          → values_from rule a (suc p) (vs ++ get_or a p 0 ∷ []) (ns ++ (n ∷ [])) ≡ values_from rule a (suc p) (vs ++ get_or a p 0 ∷ []) ns ++ (rule (values_from rule a (suc p) (vs ++ get_or a p 0 ∷ []) ns) n ∷ [])
-          → cond t (values_from rule a p (vs ++ rule vs m ∷ []) (ns ++ (n ∷ []))) (values_from rule a (suc p) (vs ++ get_or a p 0 ∷ []) (ns ++ (n ∷ [])))
-          ≡ cond t (values_from rule a p (vs ++ rule vs m ∷ []) ns) (values_from rule a (suc p) (vs ++ get_or a p 0 ∷ []) ns)
-          ++ (rule (cond t (values_from rule a p (vs ++ rule vs m ∷ []) ns) (values_from rule a (suc p) (vs ++ get_or a p 0 ∷ []) ns)) n ∷ [])
-      go true h k = h
-      go false h k = k
-
-  values_length : (ns : List BoolNode) (p : ℕ) (vs : List ℕ) → length (values_from rule a p vs ns) ≡ length vs + length ns
-  unfolding values_from
-  values_length [] p vs = sym (add-zero (length vs))
-  values_length (m ∷ ns) p vs = go (is_cell_node m) (values_length ns p (vs ++ rule vs m ∷ [])) (values_length ns (suc p) (vs ++ get_or a p 0 ∷ []))
-    where
-      go : (t : Bool) → length (values_from rule a p (vs ++ rule vs m ∷ []) ns) ≡ length (vs ++ rule vs m ∷ []) + length ns
-          → length (values_from rule a (suc p) (vs ++ get_or a p 0 ∷ []) ns) ≡ length (vs ++ get_or a p 0 ∷ []) + length ns
-          → length (cond t (values_from rule a p (vs ++ rule vs m ∷ []) ns) (values_from rule a (suc p) (vs ++ get_or a p 0 ∷ []) ns)) ≡ length vs + suc (length ns)
-      go true h k = h ∙ omega (arith, length_snoc vs (rule vs m))
-      go false h k = k ∙ omega (arith, length_snoc vs (get_or a p 0))
-
   values-inputs : (m i p : ℕ) (vs : List ℕ) → values_from rule a p vs (up_from input_node i m) ≡ vs ++ up_from (λ k. get_or a k 0) p m
   unfolding values_from is_cell_node
   values-inputs zero i p vs = sym (append-nil vs)
@@ -67,11 +41,11 @@ node_bits ins ns = values_from entry_of ins 0 [] ns
 
 pub bits_length : (ins : List ℕ) (ns : List BoolNode) → length (node_bits ins ns) ≡ length ns
 unfolding node_bits
-bits_length ins ns = values_length entry_of ins ns 0 [] ∙ zero-add (length ns)
+bits_length ins ns = length-values entry_of ins ns
 
 pub bits_snoc : (ins : List ℕ) (ns : List BoolNode) (n : BoolNode) → is_cell_node n ≡ true → node_bits ins (ns ++ (n ∷ [])) ≡ node_bits ins ns ++ (entry_of (node_bits ins ns) n ∷ [])
 unfolding node_bits
-bits_snoc ins ns n e = values_snoc entry_of ins ns 0 [] n e
+bits_snoc ins ns n e = values_snoc entry_of ins ns n ∙ rw e refl
 
 -- ---- the file's wires follow the bits of a list
 

@@ -1,3 +1,4 @@
+pub mod NodeValues
 pub mod BristolValues
 pub mod BristolGates
 pub mod BristolMeans

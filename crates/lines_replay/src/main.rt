@@ -3,71 +3,52 @@
 
 #![tactic(auto)]
 
-ghost use Rattle.std.specs.Prelude.{◌≤◌, ◌<◌, length};
+ghost use Rattle.std.specs.Prelude.{◌≤◌, ◌<◌, length, IfSome};
 
 use printing::input::read_full;
-use printing::rooms::text_room;
+use printing::rooms::room;
 use std::fs::File;
 use std::io;
 use std::rt::Files;
 use text::joining::logical_lines;
-use text::numbers::wide;
 
-// Whether a record comes out the same, and where the next one starts; the same place if the data ends first.
-#[derive(Clone, Copy)]
-struct Replayed {
-    same: bool,
-    next: usize,
-}
-
-fn joins_to(text: &[u8], joined: &mut [u8], answer: &[u8]) -> bool
-    requires { length text.now < length joined.old }
+fn joins_to(text: &[u8], answer: &[u8]) -> bool
+    requires { length text.now < 256 }
 {
-    let n = logical_lines(text, joined);
+    let mut joined = [0u8; 257];
+    let n = logical_lines(text, &mut joined);
     &joined[..n] == answer
 }
 
-fn replay_one(recorded: &[u8], at: usize) -> Replayed
-    requires { at < length recorded.now }
-    ensures { result.next ≤ length recorded.now }
+// Bytes after their length in a byte, and what follows them; none if the data ends first.
+fn split_counted(recorded: &[u8]) -> Option<(&[u8], &[u8])>
+    ensures { IfSome result (λ parts. (length parts.0.now < 256) × (length parts.1.now < length recorded.now)) }
 {
-    let start = at + 1;
-    let len = wide(recorded[at]);
-    if recorded.len() - start <= len {
-        return Replayed {
-            same: false,
-            next: at,
-        };
+    let (&len, rest) = recorded.split_first()?;
+    let len = usize::from(len);
+    if rest.len() < len {
+        return None;
     }
-    let end = start + len;
-    let from = end + 1;
-    let size = wide(recorded[end]);
-    if recorded.len() - from < size {
-        return Replayed {
-            same: false,
-            next: at,
-        };
-    }
-    let next = from + size;
-    let mut joined = [0u8; 257];
-    let same = joins_to(&recorded[start..end], &mut joined, &recorded[from..next]);
-    Replayed { same, next }
+    Some(rest.split_at(len))
 }
 
 fn replay(rt: &impl Print, recorded: &[u8]) -> io::Result<()> {
-    let mut at = 0;
+    let mut rest = recorded;
     let mut records: u64 = 0;
     let mut same: u64 = 0;
-    while at < recorded.len() {
-        let r = replay_one(recorded, at);
-        if r.next <= at {
+    // Each record says where the next begins, so there is no range to count over.
+    while !rest.is_empty() {
+        let Some((text, after)) = split_counted(rest) else {
             return Ok(());
-        }
+        };
+        let Some((answer, after)) = split_counted(after) else {
+            return Ok(());
+        };
         records += 1;
-        if r.same {
+        if joins_to(text, answer) {
             same += 1;
         }
-        at = r.next;
+        rest = after;
     }
     println!(rt; "{records} records, {same} the same")
 }
@@ -76,7 +57,7 @@ fn replay_file(rt: &(impl Files + Print)) -> io::Result<()> {
     let Ok(mut file) = File::open(rt, "joined_lines") else {
         return Ok(());
     };
-    let mut recorded = text_room();
+    let mut recorded: [u8; 65536] = room();
     let n = read_full(&mut file, &mut recorded)?;
     replay(rt, &recorded[..n])
 }

@@ -1,41 +1,36 @@
 -- Laws of the lines of a listing.
 -- Assumes nothing.
 use Prim.Native.Nat.{ℕ, zero, suc, ◌+◌, ◌*◌, ◌≤◌, ◌<◌}
-use mathlib.Core.Path.{◌≡◌, refl, sym, ap, subst, ◌∙◌}
+use mathlib.Core.Path.{◌≡◌, refl, sym, ap, ap₂, subst, ◌∙◌}
 use mathlib.Core.List.{List, [], ◌∷◌, ◌++◌, append_assoc}
 use native.Mathlib.Omega.{arith}
 use native.Mathlib.Nat.{add-zero, zero-add}
 use native.Mathlib.Numerals.{add-one}
-use lib.ListN.{length, take, get_or, set, length-set, get_or-append}
+use lib.ListN.{length, length-append, take, get_or, set, length-set, get_or-append}
 use lib.Seq.{get_or-append-add, take-suc-set}
 use borrow.Author.Tests.{eq-eqb, ne_eqb}
 use Rattle.laws.specs.Areas.{up_from}
 use Rattle.laws.proofs.Areas.{length_up}
-use Rattle.text.specs.Writing.{Puts}
 use Rattle.circuit.specs.declared.records.BoolNode.{BoolNode}
 use Rattle.circuit.specs.declared.records.Output.{Output}
 use Rattle.circuit.specs.Records.{is_cell_node, node_at, output_at, nodes_of, outputs_of, NodeIs, OutputIs}
 use Rattle.circuit.proofs.Codes.{node_is, output_is}
 use Rattle.listing.specs.Listing.{input_line, cell_line, node_line, node_lines, output_line, output_lines, count_line, order_line, listing, keys_from}
-use Rattle.listing.specs.Lines.{Line}
-
-pub line_of : (old new x : List ℕ) (r : ℕ) → Puts old new 0 r x → Line new r x
-line_of old new x r p = record { front = p.front; count = p.count ∙ zero-add (length x) }
 
 -- ---- the line of a record
 
-module _ (t area new : List ℕ) (r k : ℕ) where
-  pub output-line : (o : Output) → OutputIs area (k * 5) o → Line new r (output_line t o) → Line new r (output_line t (output_at area k))
-  output-line o h p = subst (λ (x : Output). Line new r (output_line t x)) (output_is area k h) p
+module _ (t area : List ℕ) (k : ℕ) where
+  pub output_line_of : (o : Output) → OutputIs area (k * 5) o → output_line t o ≡ output_line t (output_at area k)
+  output_line_of o h = ap (output_line t) (output_is area k h)
 
   module _ (n : BoolNode) (h : NodeIs area (k * 9) n) where
-    pub cell-line : n.kind ≡ 2 → Line new r (cell_line t k n) → Line new r (node_line t k (node_at area k))
+    pub cell_line_of : n.kind ≡ 2 → cell_line t k n ≡ node_line t k (node_at area k)
     unfolding node_line is_cell_node
-    cell-line e p = subst (λ (x : BoolNode). Line new r (node_line t k x)) (node_is area k h) (rw (eq-eqb n.kind 2 e) p)
+    cell_line_of e = subst (λ (x : BoolNode). cell_line t k n ≡ node_line t k x) (node_is area k h) (rw (eq-eqb n.kind 2 e))
 
-    pub input-line : (n.kind ≡ 2 → ⊥) → Line new r (input_line t k n) → Line new r (node_line t k (node_at area k))
+    pub input_line_of : (n.kind ≡ 2 → ⊥) → input_line t k n ≡ node_line t k (node_at area k)
     unfolding node_line is_cell_node
-    input-line e p = subst (λ (x : BoolNode). Line new r (node_line t k x)) (node_is area k h) (rw (ne_eqb n.kind 2 e) p)
+    input_line_of e = subst (λ (x : BoolNode). input_line t k n ≡ node_line t k x) (node_is area k h) (rw (ne_eqb n.kind 2 e))
 
 -- ---- which line is which
 
@@ -66,7 +61,7 @@ output_line_at t f i (suc m) (suc j) h =
     output_line_at t f (suc i) m j (omega arith) ∙ ap (λ (k : ℕ). output_line t (f k)) e
 
 module _ (t nodes outputs order : List ℕ) (m n : ℕ) where
-  abbrev lines : List (List ℕ)
+  abbrev pub lines : List (List ℕ)
   lines = listing t (nodes_of nodes m) (outputs_of outputs n) order
 
   before : length (node_lines t 0 (nodes_of nodes m)) ≡ m
@@ -74,6 +69,10 @@ module _ (t nodes outputs order : List ℕ) (m n : ℕ) where
 
   between : length (output_lines t (outputs_of outputs n)) ≡ n
   between = length_output_lines t (outputs_of outputs n) ∙ length_up (output_at outputs) 0 n
+
+  pub listing_length : length lines ≡ suc (m + (n + 1))
+  unfolding listing
+  listing_length = ap suc (length-append (node_lines t 0 (nodes_of nodes m)) _ ∙ ap₂ (λ (i j : ℕ). i + j) before (length-append (output_lines t (outputs_of outputs n)) (order_line order ∷ []) ∙ ap (λ (j : ℕ). j + 1) between))
 
   -- the lines after those of the nodes
   after_nodes : (j : ℕ) → get_or lines (suc (m + j)) [] ≡ get_or (output_lines t (outputs_of outputs n) ++ (order_line order ∷ [])) j []
@@ -88,31 +87,26 @@ module _ (t nodes outputs order : List ℕ) (m n : ℕ) where
       ∙ ap (λ (k : ℕ). get_or (output_lines t (outputs_of outputs n) ++ (order_line order ∷ [])) (k + j) []) (sym between)
       ∙ get_or-append-add (output_lines t (outputs_of outputs n)) (order_line order ∷ []) j []
 
-  module _ (new : List ℕ) (r k : ℕ) where
-    pub is_count : k ≡ 0 → Line new r (count_line m) → Line new r (get_or (listing t (nodes_of nodes m) (outputs_of outputs n) order) k [])
-    unfolding listing
-    is_count e p = rw (e, length_up (node_at nodes) 0 m) p
+  pub is_count : count_line m ≡ get_or lines 0 []
+  unfolding listing
+  is_count = rw (length_up (node_at nodes) 0 m)
 
-    pub is_node : (i : ℕ) → k ≡ suc i → i < m → Line new r (node_line t i (node_at nodes i)) → Line new r (get_or (listing t (nodes_of nodes m) (outputs_of outputs n) order) k [])
-    unfolding listing
-    is_node i e h p =
-        let l : i < length (node_lines t 0 (nodes_of nodes m)) = omega (arith, before) in
-        rw (e, get_or-append (node_lines t 0 (nodes_of nodes m)) (output_lines t (outputs_of outputs n) ++ (order_line order ∷ [])) [] i l, node_line_at t (node_at nodes) 0 m i h, zero-add i) p
+  pub is_node : (i : ℕ) → i < m → node_line t i (node_at nodes i) ≡ get_or lines (suc i) []
+  unfolding listing
+  is_node i h =
+      let l : i < length (node_lines t 0 (nodes_of nodes m)) = omega (arith, before) in
+      rw (get_or-append (node_lines t 0 (nodes_of nodes m)) (output_lines t (outputs_of outputs n) ++ (order_line order ∷ [])) [] i l, node_line_at t (node_at nodes) 0 m i h, zero-add i)
 
-    pub is_output : (j : ℕ) → k ≡ suc (m + j) → j < n → Line new r (output_line t (output_at outputs j)) → Line new r (get_or (listing t (nodes_of nodes m) (outputs_of outputs n) order) k [])
-    is_output j e h p =
-        let l : j < length (output_lines t (outputs_of outputs n)) = omega (arith, between) in
-        let q : get_or lines (suc (m + j)) [] ≡ output_line t (output_at outputs j) =
-        after_nodes j ∙ get_or-append (output_lines t (outputs_of outputs n)) (order_line order ∷ []) [] j l ∙ output_line_at t (output_at outputs) 0 n j h ∙ ap (λ (x : ℕ). output_line t (output_at outputs x)) (zero-add j) in
-        rw e (rw q p)
+  pub is_output : (j : ℕ) → j < n → output_line t (output_at outputs j) ≡ get_or lines (suc (m + j)) []
+  is_output j h =
+      let l : j < length (output_lines t (outputs_of outputs n)) = omega (arith, between) in
+      sym (after_nodes j ∙ get_or-append (output_lines t (outputs_of outputs n)) (order_line order ∷ []) [] j l ∙ output_line_at t (output_at outputs) 0 n j h ∙ ap (λ (x : ℕ). output_line t (output_at outputs x)) (zero-add j))
 
-    pub is-order : k ≡ suc (m + n) → Line new r (order_line order) → Line new r (get_or (listing t (nodes_of nodes m) (outputs_of outputs n) order) k [])
-    is-order e p =
-        let f : k ≡ suc (m + (n + 0)) = omega arith in
-        rw f (rw (after_outputs 0) p)
+  pub is-order : order_line order ≡ get_or lines (suc (m + (n + 0))) []
+  is-order = sym (after_outputs 0)
 
-    pub is_past : (j : ℕ) → k ≡ suc (m + (n + suc j)) → r ≡ 0 → Line new r (get_or (listing t (nodes_of nodes m) (outputs_of outputs n) order) k [])
-    is_past j e z = rw (e, z) (rw (after_outputs (suc j)) (record { front = refl; count = refl }))
+  pub is_past : (j : ℕ) → [] ≡ get_or lines (suc (m + (n + suc j))) []
+  is_past j = sym (after_outputs (suc j))
 
 -- ---- the keys
 

@@ -1,137 +1,142 @@
-// The lines of the listing, each in front of a lent area.
-ghost use Rattle.std.specs.Prelude.{[], ◌+◌, ◌*◌, ◌/◌, ◌≤◌, length, get_or};
+// The lines of the listing, each put at the end of what is written.
+ghost use Rattle.std.specs.Prelude.{◌≡◌, [], ◌++◌, ◌+◌, ◌*◌, ◌/◌, ◌≤◌, length, get_or};
+ghost use Rattle.arrayvec.specs.ArrayVec.{array_vec_len};
 ghost use Rattle.circuit.specs.Records.{node_at, output_at, nodes_of, outputs_of};
 ghost use Rattle.listing.specs.Listing.{node_head, input_line, cell_line, node_line, output_line, count_line, order_line, refused_line, listing};
-ghost use Rattle.listing.specs.Lines.{PutsUpTo, Line, Room};
+ghost use Rattle.listing.specs.Lines.{Room};
 
-use crate::pieces::{
-    put_byte, put_bytes, put_name, put_number, put_numbers, put_wire_word, put_wires,
-};
+use crate::pieces::{put_bytes, put_name, put_number, put_numbers, put_wire_word, put_wires};
+use arrayvec::ArrayVec;
 use circuit::records::{BoolNode, Name, node_at, output_at};
 
 // `refused N`.
-pub fn put_refused(line: &mut [u8], n: usize) -> usize
-    requires { 128 ≤ length line.old }
-    ensures { Line line.new result (refused_line n) }
+#[tactic(auto, unfolding(crate::specs::Listing::refused_line))]
+pub fn put_refused<const N: usize>(line: &mut ArrayVec<u8, N>, n: usize)
+    requires { array_vec_len line.old + 128 ≤ N }
+    ensures { line.new.items ≡ line.old.items ++ refused_line n }
 {
-    let a = put_bytes(line, 0, b"refused");
-    let b = put_number(line, a, n);
-    put_byte(line, b, 10)
+    put_bytes(line, b"refused");
+    put_number(line, n);
+    line.push(b'\n');
 }
 
 // `nodes N`.
-pub fn put_count(line: &mut [u8], n: usize) -> usize
-    requires { 128 ≤ length line.old }
-    ensures { Line line.new result (count_line n) }
+#[tactic(auto, unfolding(crate::specs::Listing::count_line))]
+pub fn put_count<const N: usize>(line: &mut ArrayVec<u8, N>, n: usize)
+    requires { array_vec_len line.old + 128 ≤ N }
+    ensures { line.new.items ≡ line.old.items ++ count_line n }
 {
-    let a = put_bytes(line, 0, b"nodes");
-    let b = put_number(line, a, n);
-    put_byte(line, b, 10)
+    put_bytes(line, b"nodes");
+    put_number(line, n);
+    line.push(b'\n');
 }
 
 // A node's letter, number and name.
-pub fn put_head(
+#[tactic(auto, unfolding(crate::specs::Listing::node_head))]
+pub fn put_head<const N: usize>(
+    line: &mut ArrayVec<u8, N>,
     text: &[u8],
     letter: u8,
     before: &[u8],
     i: usize,
     name: Name,
-    line: &mut [u8],
-) -> usize
-    requires { (length before.now ≤ 2) × (length text.now + 50 ≤ length line.old) }
-    ensures { PutsUpTo (length text.now + 50) line.old line.new 0 result (node_head text.now letter before.now i name) }
+)
+    requires { (length before.now ≤ 2) × (array_vec_len line.old + (length text.now + 50) ≤ N) }
+    ensures items { line.new.items ≡ line.old.items ++ node_head text.now letter before.now i name }
+    ensures within { array_vec_len line.new ≤ array_vec_len line.old + (length text.now + 50) }
 {
-    let a = put_byte(line, 0, letter);
-    let b = put_number(line, a, i);
-    let c = put_byte(line, b, 32);
-    put_name(text, before, name, line, c)
+    line.push(letter);
+    put_number(line, i);
+    line.push(b' ');
+    put_name(line, text, before, name);
 }
 
 // The line of an input.
-pub fn put_input(text: &[u8], i: usize, n: BoolNode, line: &mut [u8]) -> usize
-    requires { length text.now + 128 ≤ length line.old }
-    ensures { Line line.new result (input_line text.now i n) }
+#[tactic(auto, unfolding(crate::specs::Listing::input_line))]
+pub fn put_input<const N: usize>(line: &mut ArrayVec<u8, N>, text: &[u8], i: usize, n: BoolNode)
+    requires { array_vec_len line.old + (length text.now + 128) ≤ N }
+    ensures { line.new.items ≡ line.old.items ++ input_line text.now i n }
 {
-    let name = n.name;
-    let a = put_head(text, 73, b"i_", i, name, line);
-    put_byte(line, a, 10)
+    put_head(line, text, b'I', b"i_", i, n.name);
+    line.push(b'\n');
 }
 
 // The line of a cell.
-pub fn put_cell(text: &[u8], i: usize, n: BoolNode, line: &mut [u8]) -> usize
-    requires { length text.now + 128 ≤ length line.old }
-    ensures { Line line.new result (cell_line text.now i n) }
+#[tactic(auto, unfolding(crate::specs::Listing::cell_line))]
+pub fn put_cell<const N: usize>(line: &mut ArrayVec<u8, N>, text: &[u8], i: usize, n: BoolNode)
+    requires { array_vec_len line.old + (length text.now + 128) ≤ N }
+    ensures { line.new.items ≡ line.old.items ++ cell_line text.now i n }
 {
-    let name = n.name;
-    let a = put_head(text, 76, b"w_", i, name, line);
-    let b = put_number(line, a, n.table);
-    let c = put_wires(line, b, n);
-    put_byte(line, c, 10)
+    put_head(line, text, b'L', b"w_", i, n.name);
+    put_number(line, n.table);
+    put_wires(line, n);
+    line.push(b'\n');
 }
 
 // The line of node i.
-pub fn put_node(text: &[u8], nodes: &[usize], i: usize, line: &mut [u8]) -> usize
-    requires { (i * 9 + 9 ≤ length nodes.now) × (length text.now + 128 ≤ length line.old) }
-    ensures { Line line.new result (node_line text.now i (node_at nodes.now i)) }
+pub fn put_node<const N: usize>(line: &mut ArrayVec<u8, N>, text: &[u8], nodes: &[usize], i: usize)
+    requires { (i * 9 + 9 ≤ length nodes.now) × (array_vec_len line.old + (length text.now + 128) ≤ N) }
+    ensures { line.new.items ≡ line.old.items ++ node_line text.now i (node_at nodes.now i) }
 {
     let n = node_at(nodes, i);
     if n.kind == 2 {
-        return put_cell(text, i, n, line);
+        put_cell(line, text, i, n);
+    } else {
+        put_input(line, text, i, n);
     }
-    put_input(text, i, n, line)
 }
 
 // The line of output j.
-pub fn put_output(text: &[u8], outputs: &[usize], j: usize, line: &mut [u8]) -> usize
-    requires { (j * 5 + 5 ≤ length outputs.now) × (length text.now + 128 ≤ length line.old) }
-    ensures { Line line.new result (output_line text.now (output_at outputs.now j)) }
+#[tactic(auto, unfolding(crate::specs::Listing::output_line))]
+pub fn put_output<const N: usize>(
+    line: &mut ArrayVec<u8, N>,
+    text: &[u8],
+    outputs: &[usize],
+    j: usize,
+)
+    requires { (j * 5 + 5 ≤ length outputs.now) × (array_vec_len line.old + (length text.now + 128) ≤ N) }
+    ensures { line.new.items ≡ line.old.items ++ output_line text.now (output_at outputs.now j) }
 {
     let o = output_at(outputs, j);
-    let name = o.name;
-    let wire = o.wire;
-    let a = put_bytes(line, 0, b"O ");
-    let b = put_name(text, b"", name, line, a);
-    let c = put_wire_word(line, b, wire);
-    put_byte(line, c, 10)
+    put_bytes(line, b"O ");
+    put_name(line, text, b"", o.name);
+    put_wire_word(line, o.wire);
+    line.push(b'\n');
 }
 
 // The line of the order.
-pub fn put_order(order: &[usize], line: &mut [u8]) -> usize
-    requires { 21 * length order.now + 2 ≤ length line.old }
-    ensures { Line line.new result (order_line order.now) }
+#[tactic(auto, unfolding(crate::specs::Listing::order_line))]
+pub fn put_order<const N: usize>(line: &mut ArrayVec<u8, N>, order: &[usize])
+    requires { array_vec_len line.old + (21 * length order.now + 2) ≤ N }
+    ensures { line.new.items ≡ line.old.items ++ order_line order.now }
 {
-    let a = put_byte(line, 0, 83);
-    let b = put_numbers(line, a, order);
-    put_byte(line, b, 10)
+    line.push(b'S');
+    put_numbers(line, order);
+    line.push(b'\n');
 }
 
-// Line k of the listing; 0 where there is none.
-pub fn listing_line(
+// Line k of the listing, and nothing else; nothing where there is none.
+pub fn listing_line<const N: usize>(
+    line: &mut ArrayVec<u8, N>,
     text: &[u8],
     nodes: &[usize],
     outputs: &[usize],
     order: &[usize],
     k: usize,
-    line: &mut [u8],
-) -> usize
-    requires { Room text.now order.now line.old }
-    ensures { Line line.new result (get_or (listing text.now (nodes_of nodes.now (length nodes.now / 9)) (outputs_of outputs.now (length outputs.now / 5)) order.now) k []) }
+)
+    requires { Room (length text.now) (length order.now) N }
+    ensures { line.new.items ≡ get_or (listing text.now (nodes_of nodes.now (length nodes.now / 9)) (outputs_of outputs.now (length outputs.now / 5)) order.now) k [] }
 {
+    line.clear();
     let m = nodes.len() / 9;
-    if k == 0 {
-        return put_count(line, m);
-    }
-    let i = k - 1;
-    if i < m {
-        return put_node(text, nodes, i, line);
-    }
-    let j = i - m;
     let n = outputs.len() / 5;
-    if j < n {
-        return put_output(text, outputs, j, line);
+    if k == 0 {
+        put_count(line, m);
+    } else if k <= m {
+        put_node(line, text, nodes, k - 1);
+    } else if k <= m + n {
+        put_output(line, text, outputs, k - 1 - m);
+    } else if k == m + n + 1 {
+        put_order(line, order);
     }
-    if j == n {
-        return put_order(order, line);
-    }
-    0
 }

@@ -1,31 +1,21 @@
-// The pieces of a line: numbers, wires and names, each put after what stands in front of the area.
-ghost use Rattle.std.specs.Prelude.{◌≡◌, [], ◌∷◌, ◌+◌, ◌*◌, ◌≤◌, ◌<◌, length};
+// The pieces of a line: numbers, wires and names, each put at the end of what is written of it.
+ghost use Rattle.std.specs.Prelude.{◌≡◌, ◌∷◌, [], ◌++◌, ◌+◌, ◌*◌, ◌≤◌, ◌<◌, length};
+ghost use Rattle.arrayvec.specs.ArrayVec.{array_vec_len};
 ghost use Rattle.laws.specs.Stretches.{stretch};
-ghost use Rattle.text.specs.Writing.{Puts};
 ghost use Rattle.circuit.specs.Records.{wires_of};
 ghost use Rattle.listing.specs.Decimal.{decimal};
 ghost use Rattle.listing.specs.Listing.{word, words, wire_bytes, name_bytes};
-ghost use Rattle.listing.specs.Lines.{PutsUpTo};
 
+use arrayvec::ArrayVec;
 use circuit::records::{BoolNode, BoolWire, Name, wire_at, wire_count};
-use text::joining::put_stretch;
-
-// One byte.
-pub fn put_byte(line: &mut [u8], at: usize, b: u8) -> usize
-    requires { at < length line.old }
-    ensures { Puts line.old line.new at result (b ∷ []) }
-{
-    line[at] = b;
-    at + 1
-}
 
 // Bytes that are given.
-pub fn put_bytes(line: &mut [u8], at: usize, bytes: &[u8]) -> usize
-    requires { at + length bytes.now ≤ length line.old }
-    ensures { Puts line.old line.new at result bytes.now }
+pub fn put_bytes<const N: usize>(line: &mut ArrayVec<u8, N>, bytes: &[u8])
+    requires { array_vec_len line.old + length bytes.now ≤ N }
+    ensures items { line.new.items ≡ line.old.items ++ bytes.now }
+    ensures within { array_vec_len line.new ≡ array_vec_len line.old + length bytes.now }
 {
-    let n = bytes.len();
-    put_stretch(bytes, 0, n, line, at)
+    line.try_extend_from_slice(bytes).unwrap();
 }
 
 // The byte of a digit.
@@ -33,119 +23,108 @@ pub fn digit(d: usize) -> u8
     requires { d < 10 }
     ensures { result ≡ 48 + d }
 {
-    (48 + d) as u8
+    b'0' + d as u8
 }
 
 // The digits of a number.
-pub fn put_decimal(line: &mut [u8], at: usize, n: usize) -> usize
-    requires { at + 20 ≤ length line.old }
-    ensures { PutsUpTo 20 line.old line.new at result (decimal n) }
+pub fn put_decimal<const N: usize>(line: &mut ArrayVec<u8, N>, n: usize)
+    requires { array_vec_len line.old + 20 ≤ N }
+    ensures items { line.new.items ≡ line.old.items ++ decimal n }
+    ensures within { array_vec_len line.new ≤ array_vec_len line.old + 20 }
 {
     if n < 10 {
-        let d = digit(n);
-        return put_byte(line, at, d);
+        line.push(digit(n));
+    } else {
+        put_decimal(line, n / 10);
+        line.push(digit(n % 10));
     }
-    let a = put_decimal(line, at, n / 10);
-    let d = digit(n % 10);
-    put_byte(line, a, d)
 }
 
 // A space and a number.
-pub fn put_number(line: &mut [u8], at: usize, n: usize) -> usize
-    requires { at + 21 ≤ length line.old }
-    ensures { PutsUpTo 21 line.old line.new at result (word (decimal n)) }
+pub fn put_number<const N: usize>(line: &mut ArrayVec<u8, N>, n: usize)
+    requires { array_vec_len line.old + 21 ≤ N }
+    ensures items { line.new.items ≡ line.old.items ++ word (decimal n) }
+    ensures within { array_vec_len line.new ≤ array_vec_len line.old + 21 }
 {
-    let a = put_byte(line, at, 32);
-    put_decimal(line, a, n)
+    line.push(b' ');
+    put_decimal(line, n);
 }
 
 // Numbers, each with a space before it.
-pub fn put_numbers(line: &mut [u8], at: usize, numbers: &[usize]) -> usize
-    requires { at + 21 * length numbers.now ≤ length line.old }
-    ensures { PutsUpTo (21 * length numbers.now) line.old line.new at result (words decimal numbers.now) }
+pub fn put_numbers<const N: usize>(line: &mut ArrayVec<u8, N>, numbers: &[usize])
+    requires { array_vec_len line.old + 21 * length numbers.now ≤ N }
+    ensures items { line.new.items ≡ line.old.items ++ words decimal numbers.now }
+    ensures within { array_vec_len line.new ≤ array_vec_len line.old + 21 * length numbers.now }
 {
-    let mut a = at;
-    for k in 0..numbers.len() {
-        a = put_number(line, a, numbers[k]);
+    for &n in numbers {
+        put_number(line, n);
     }
-    a
 }
 
 // A wire: `n` and its node's number, or `c0`, `c1`.
-pub fn put_wire(line: &mut [u8], at: usize, w: BoolWire) -> usize
-    requires { at + 21 ≤ length line.old }
-    ensures { PutsUpTo 21 line.old line.new at result (wire_bytes w) }
+pub fn put_wire<const N: usize>(line: &mut ArrayVec<u8, N>, w: BoolWire)
+    requires { array_vec_len line.old + 21 ≤ N }
+    ensures items { line.new.items ≡ line.old.items ++ wire_bytes w }
+    ensures within { array_vec_len line.new ≤ array_vec_len line.old + 21 }
 {
     match w {
-        BoolWire::Const(b) => {
-            if b {
-                return put_bytes(line, at, b"c1");
-            }
-            put_bytes(line, at, b"c0")
-        }
+        BoolWire::Const(true) => put_bytes(line, b"c1"),
+        BoolWire::Const(false) => put_bytes(line, b"c0"),
         BoolWire::Node(n) => {
-            let k = n.0;
-            let a = put_byte(line, at, 110);
-            put_decimal(line, a, k)
+            line.push(b'n');
+            put_decimal(line, n.0);
         }
     }
 }
 
 // A space and a wire.
-pub fn put_wire_word(line: &mut [u8], at: usize, w: BoolWire) -> usize
-    requires { at + 22 ≤ length line.old }
-    ensures { PutsUpTo 22 line.old line.new at result (word (wire_bytes w)) }
+pub fn put_wire_word<const N: usize>(line: &mut ArrayVec<u8, N>, w: BoolWire)
+    requires { array_vec_len line.old + 22 ≤ N }
+    ensures items { line.new.items ≡ line.old.items ++ word (wire_bytes w) }
+    ensures within { array_vec_len line.new ≤ array_vec_len line.old + 22 }
 {
-    let a = put_byte(line, at, 32);
-    put_wire(line, a, w)
+    line.push(b' ');
+    put_wire(line, w);
 }
 
 // The wires of a node.
-pub fn put_wires(line: &mut [u8], at: usize, n: BoolNode) -> usize
-    requires { at + 44 ≤ length line.old }
-    ensures { PutsUpTo 44 line.old line.new at result (words wire_bytes (wires_of n)) }
+pub fn put_wires<const N: usize>(line: &mut ArrayVec<u8, N>, n: BoolNode)
+    requires { array_vec_len line.old + 44 ≤ N }
+    ensures items { line.new.items ≡ line.old.items ++ words wire_bytes (wires_of n) }
+    ensures within { array_vec_len line.new ≤ array_vec_len line.old + 44 }
 {
-    let wires = wire_count(n);
-    let mut a = at;
-    for k in 0..wires {
-        let w = wire_at(n, k);
-        a = put_wire_word(line, a, w);
+    for k in 0..wire_count(n) {
+        put_wire_word(line, wire_at(n, k));
     }
-    a
 }
 
 // A stretch of the text, as far as the text goes.
-pub fn put_part(text: &[u8], start: usize, len: usize, line: &mut [u8], at: usize) -> usize
-    requires { at + length text.now ≤ length line.old }
-    ensures { PutsUpTo (length text.now) line.old line.new at result (stretch text.now start len) }
+pub fn put_part<const N: usize>(line: &mut ArrayVec<u8, N>, text: &[u8], start: usize, len: usize)
+    requires { array_vec_len line.old + length text.now ≤ N }
+    ensures items { line.new.items ≡ line.old.items ++ stretch text.now start len }
+    ensures within { array_vec_len line.new ≤ array_vec_len line.old + length text.now }
 {
-    let size = text.len();
-    if size <= start {
-        return at;
-    }
-    let left = size - start;
-    if left < len {
-        return put_stretch(text, start, left, line, at);
-    }
-    put_stretch(text, start, len, line, at)
+    let from = start.min(text.len());
+    let end = from + len.min(text.len() - from);
+    put_bytes(line, &text[from..end]);
 }
 
 // A name, with what stands before a wire's number.
-pub fn put_name(text: &[u8], before: &[u8], name: Name, line: &mut [u8], at: usize) -> usize
-    requires { (length before.now ≤ 2) × (at + (length text.now + 27) ≤ length line.old) }
-    ensures { PutsUpTo (length text.now + 27) line.old line.new at result (name_bytes text.now before.now name) }
+pub fn put_name<const N: usize>(line: &mut ArrayVec<u8, N>, text: &[u8], before: &[u8], name: Name)
+    requires { (length before.now ≤ 2) × (array_vec_len line.old + (length text.now + 27) ≤ N) }
+    ensures items { line.new.items ≡ line.old.items ++ name_bytes text.now before.now name }
+    ensures within { array_vec_len line.new ≤ array_vec_len line.old + (length text.now + 27) }
 {
     match name {
-        Name::Stretch { start, len } => put_part(text, start, len, line, at),
+        Name::Stretch { start, len } => put_part(line, text, start, len),
         Name::Step { start, len, step } => {
-            let a = put_part(text, start, len, line, at);
-            let b = put_bytes(line, a, b"$bench$");
-            put_decimal(line, b, step)
+            put_part(line, text, start, len);
+            put_bytes(line, b"$bench$");
+            put_decimal(line, step);
         }
         Name::Number(w) => {
-            let n = w.0;
-            let a = put_bytes(line, at, before);
-            put_decimal(line, a, n)
+            put_bytes(line, before);
+            put_decimal(line, w.0);
         }
     }
 }

@@ -1,14 +1,13 @@
 -- Laws of a search: the records on its way, and where it ends.
 -- Assumes nothing.
+use Rattle.std.specs.Prelude.{None, Option, Some}
 use Rattle.std.proofs.Common.{◌≡◌, ℕ, zero, suc, ◌+◌, ◌-◌, ◌*◌, ◌%◌, ◌<◌, ◌≤◌, Bool, true, false, cond, List, get_or, sym, refl, ap, ◌∙◌, arith}
 use Rattle.laws.specs.Stretches.{stretch, same_bytes}
 use Rattle.laws.proofs.Stretches.{same_eq}
 use Rattle.laws.proofs.Tests.{clash, false_of}
-use Rattle.names.specs.declared.Found.{Found}
-use Rattle.names.specs.declared.Found.TheVariants.{At, Nothing}
 use Rattle.names.specs.Names.{name_of, lookup}
-use Rattle.names.specs.Chains.{bucket_of, trail_of, rest_of, digit_of, digit_at, prefix_of, start_in, len_in, entry, entries, link_at, bucket_at, trail_at, agrees, first, first_after, reached, Table, Behind, EndsAt}
-use Rattle.names.proofs.Trails.{rest_small, agrees_makes, reached_at, reached_in, reached-before}
+use Rattle.names.specs.Chains.{bucket_of, trail_of, rest_of, digit_of, digit_at, prefix_of, start_in, len_in, entry, entries, link_at, bucket_at, trail_at, agrees, first, first_after, reached, Table, Behind}
+use Rattle.names.proofs.Trails.{agrees_makes, reached_at, reached_in, reached-before}
 
 -- ---- how far a search has looked
 
@@ -21,20 +20,6 @@ looked count (suc k) = k
 abbrev pub ahead : ℕ → ℕ → ℕ
 ahead count zero = 0
 ahead count (suc k) = count - k
-
--- what the last record with the name says
-abbrev pub wire_at : List ℕ → ℕ → Found
-wire_at names zero = Nothing
-wire_at names (suc k) = At (get_or names (k * 4 + 1) 0)
-
-pub no-wire : (names : List ℕ) (last : ℕ) → last ≡ 0 → Nothing ≡ wire_at names last
-no-wire names last e = rw e
-
-pub its_wire : (names : List ℕ) (last : ℕ) → (last ≡ 0 → ⊥) → At (get_or names ((last - 1) * 4 + 1) 0) ≡ wire_at names last
-its_wire names zero nz = absurd (nz refl)
-its_wire names (suc k) nz =
-    let e : suc k - 1 ≡ k = omega arith in
-    rw e
 
 module _ (text names : List ℕ) (w : List ℕ) where
   -- a record that has the name agrees with it in every digit
@@ -68,7 +53,7 @@ module _ (text names : List ℕ) (w : List ℕ) where
           ∙ ap (λ (m : ℕ). lookup text w (entries names (looked m (first (agrees text names (bucket_of w) (trail_of w) d) (suc k) n)))) q
 
   -- the search before its first record
-  pub looked_none : (count : ℕ) → lookup text w (entries names (looked count (reached text names count (bucket_of w) (trail_of w) 0))) ≡ Nothing
+  pub looked_none : (count : ℕ) → lookup text w (entries names (looked count (reached text names count (bucket_of w) (trail_of w) 0))) ≡ None
   unfolding reached lookup entries
   looked_none count =
       let e : 0 + count ≡ count = omega arith in
@@ -84,14 +69,10 @@ module _ (text names : List ℕ) (w : List ℕ) where
       rw e (sym (rw q at (skip (suc d) (suc k) (count - suc k))))
 
   -- the record at hand has the name or not
-  pub looked_here : (k last : ℕ) → wire_at names last ≡ lookup text w (entries names k)
-      → wire_at names (cond (same_bytes (stretch text (start_in (get_or names (k * 4) 0)) (len_in (get_or names (k * 4) 0))) w) (suc k) last) ≡ lookup text w (entries names (suc k))
+  pub looked_here : (k : ℕ) (found : Option ℕ) → found ≡ lookup text w (entries names k)
+      → cond (same_bytes (stretch text (start_in (get_or names (k * 4) 0)) (len_in (get_or names (k * 4) 0))) w) (Some (get_or names (k * 4 + 1) 0)) found ≡ lookup text w (entries names (suc k))
   unfolding lookup entries entry
-  looked_here k last e = go (same_bytes (stretch text (start_in (get_or names (k * 4) 0)) (len_in (get_or names (k * 4) 0))) w)
-    where
-      go : (t : Bool) → wire_at names (cond t (suc k) last) ≡ cond t (At (get_or names (k * 4 + 1) 0)) (lookup text w (entries names k))
-      go true = refl
-      go false = e
+  looked_here k found e = ap (cond (same_bytes (stretch text (start_in (get_or names (k * 4) 0)) (len_in (get_or names (k * 4) 0))) w) (Some (get_or names (k * 4 + 1) 0))) e
 
 -- ---- a turn of the search
 
@@ -100,12 +81,13 @@ pub record On (text names : List ℕ) (count : ℕ) (w : List ℕ) (at trail : �
   pub depth : ℕ
   pub here : at ≡ reached text names count (bucket_of w) (trail_of w) depth
   pub rest : trail ≡ rest_of (trail_of w) depth
+  pub within : at ≤ count
+  pub small : trail < 4194304
 
--- with the last record that had the name
-pub record Searched (text names : List ℕ) (count : ℕ) (w : List ℕ) (at trail last : ℕ) : Type 0 where
+-- with the wire of the last record that had the name
+pub record Searched (text names : List ℕ) (count : ℕ) (w : List ℕ) (at trail : ℕ) (found : Option ℕ) : Type 0 where
   pub on : On text names count w at trail
-  pub so_far : wire_at names last ≡ lookup text w (entries names (looked count at))
-  pub bound : last ≤ count
+  pub so_far : found ≡ lookup text w (entries names (looked count at))
 
 -- with the record before, and the digit that chose its link
 pub record Walked (text names : List ℕ) (count : ℕ) (w : List ℕ) (at trail last digit : ℕ) : Type 0 where
@@ -124,81 +106,72 @@ digit_is : (h d trail : ℕ) → trail ≡ rest_of h d → digit_of trail ≡ di
 unfolding digit_at
 digit_is h d trail e = ap digit_of e
 
-module _ (text heads names : List ℕ) (count : ℕ) (ok : Table text heads names count) (w : List ℕ) where
-  pub at_in : (at trail : ℕ) → On text names count w at trail → at ≤ count
-  at_in at trail o = omega (arith, o.here, reached_in text names count (bucket_of w) (trail_of w) o.depth)
-
-  pub rest_in : (at trail : ℕ) → On text names count w at trail → trail < 4194304
-  rest_in at trail o = omega (arith, o.rest, rest_small (trail_of w) o.depth)
-
+module _ {text heads names : List ℕ} {count : ℕ} (ok : Table text heads names count) (w : List ℕ) where
   -- the first record
-  on_start : (b : ℕ) → b ≡ bucket_of w → b < 256 → get_or heads b 0 ≡ reached text names count (bucket_of w) (trail_of w) 0
-  on_start b e l = ok.head b (trail_of w) l ∙ ap (λ (d : ℕ). reached text names count d (trail_of w) 0) e
+  on_start : (b h : ℕ) → b ≡ bucket_of w → b < 256 → h ≡ trail_of w → h < 4194304 → On text names count w (get_or heads b 0) h
+  on_start b h e l g f =
+      let q : get_or heads b 0 ≡ reached text names count (bucket_of w) (trail_of w) 0 = ok.head b (trail_of w) l ∙ ap (λ (d : ℕ). reached text names count d (trail_of w) 0) e in
+      record { depth = 0; here = q; rest = g ∙ rest_start (trail_of w) (omega arith); within = omega (arith, q, reached_in text names count (bucket_of w) (trail_of w) 0); small = f }
 
   -- the next record
-  on_next : (k trail : ℕ) (o : On text names count w (suc k) trail)
+  link_is : (k trail : ℕ) (o : On text names count w (suc k) trail)
       → link_at names (k * 4) (digit_of trail) ≡ reached text names count (bucket_of w) (trail_of w) (suc o.depth)
-  on_next k trail o = ap (link_at names (k * 4)) (digit_is (trail_of w) o.depth trail o.rest) ∙ ok.link (bucket_of w) (trail_of w) o.depth k (sym o.here)
+  link_is k trail o = ap (link_at names (k * 4)) (digit_is (trail_of w) o.depth trail o.rest) ∙ ok.link (bucket_of w) (trail_of w) o.depth k (sym o.here)
 
-  rest_after : (at trail : ℕ) (o : On text names count w at trail) → trail * 6 % 4194304 ≡ rest_of (trail_of w) (suc o.depth)
-  rest_after at trail o = ap (λ (x : ℕ). x * 6 % 4194304) o.rest ∙ rest_next (trail_of w) o.depth
+  on_next : (k trail : ℕ) → On text names count w (suc k) trail → On text names count w (link_at names (k * 4) (digit_of trail)) (trail * 6 % 4194304)
+  on_next k trail o =
+      let q = link_is k trail o in
+      record {
+        depth = suc o.depth;
+        here = q;
+        rest = ap (λ (x : ℕ). x * 6 % 4194304) o.rest ∙ rest_next (trail_of w) o.depth;
+        within = omega (arith, q, reached_in text names count (bucket_of w) (trail_of w) (suc o.depth));
+        small = omega arith;
+      }
 
   -- it is nearer to the end
-  pub on_less : (at trail : ℕ) → (at ≡ 0 → ⊥) → On text names count w at trail → ahead count (link_at names ((at - 1) * 4) (digit_of trail)) < ahead count at
-  on_less zero trail nz o = absurd (nz refl)
-  on_less (suc k) trail nz o =
+  pub on_less : {at trail next : ℕ} → (at ≡ 0 → ⊥) → On text names count w at trail → next ≡ link_at names ((at - 1) * 4) (digit_of trail) → ahead count next < ahead count at
+  on_less {at = zero} nz o n = absurd (nz refl)
+  on_less {at = suc k} {trail = trail} nz o n =
       let e : suc k - 1 ≡ k = omega arith in
-      rw (e, on_next k trail o) (go (reached text names count (bucket_of w) (trail_of w) (suc o.depth)) refl)
+      rw (n, e, link_is k trail o) (go (reached text names count (bucket_of w) (trail_of w) (suc o.depth)) refl)
     where
       go : (x : ℕ) → reached text names count (bucket_of w) (trail_of w) (suc o.depth) ≡ x → ahead count x < count - k
-      go zero q = omega (arith, at_in (suc k) trail o)
+      go zero q = omega (arith, o.within)
       go (suc j) q =
           let f = reached-before text names count (bucket_of w) (trail_of w) o.depth j q in
           omega (arith, f.2, f.1, o.here, (reached_at text names count (bucket_of w) (trail_of w) (suc o.depth) j q).0)
 
   -- ---- for the wire of a name
 
-  pub search_start : (b : ℕ) → b ≡ bucket_of w → b < 256 → trail_of w < 4194304 → Searched text names count w (get_or heads b 0) (trail_of w) 0
-  search_start b e l f =
-      let q = on_start b e l in
-      record { on = record { depth = 0; here = q; rest = rest_start (trail_of w) f }; so_far = sym (rw q (looked_none text names w count)); bound = omega arith }
+  pub search_start : {b h at rest : ℕ} → b ≡ bucket_of w → b < 256 → h ≡ trail_of w → h < 4194304 → at ≡ get_or heads b 0 → rest ≡ h → Searched text names count w at rest None
+  unfolding on_start
+  search_start {b = b} {h = h} e l g f p q =
+      let o = on_start b h e l g f in
+      rw (p, q)
+      (record { on = o; so_far = sym (rw o.here (looked_none text names w count)) })
 
-  pub search_next : (at trail last : ℕ) → (at ≡ 0 → ⊥) → Searched text names count w at trail last
-      → Searched text names count w
-      (link_at names ((at - 1) * 4) (digit_of trail)) (trail * 6 % 4194304)
-      (cond (same_bytes (stretch text (start_in (get_or names ((at - 1) * 4) 0)) (len_in (get_or names ((at - 1) * 4) 0))) w) at last)
-  search_next zero trail last nz s = absurd (nz refl)
-  search_next (suc k) trail last nz s =
+  pub search_next : {at trail at' trail' : ℕ} {found found' : Option ℕ} → (at ≡ 0 → ⊥) → Searched text names count w at trail found
+      → at' ≡ link_at names ((at - 1) * 4) (digit_of trail) → trail' ≡ trail * 6 % 4194304
+      → found' ≡ cond (same_bytes (stretch text (start_in (get_or names ((at - 1) * 4) 0)) (len_in (get_or names ((at - 1) * 4) 0))) w) (Some (get_or names ((at - 1) * 4 + 1) 0)) found
+      → Searched text names count w at' trail' found'
+  search_next {at = zero} nz s p q n = absurd (nz refl)
+  search_next {at = suc k} {trail = trail} {found = found} {found' = found'} nz s p q n =
       let e : suc k - 1 ≡ k = omega arith in
-      let q = on_next k trail s.on in
-      let here = looked_here text names w k last s.so_far in
-      rw e (record {
-        on = record { depth = suc s.on.depth; here = q; rest = rest_after (suc k) trail s.on };
-        so_far = here ∙ sym (rw q (looked_next text names w count s.on.depth k (sym s.on.here)));
-        bound = within (same_bytes (stretch text (start_in (get_or names (k * 4) 0)) (len_in (get_or names (k * 4) 0))) w);
-      })
-    where
-      within : (t : Bool) → cond t (suc k) last ≤ count
-      within true = at_in (suc k) trail s.on
-      within false = s.bound
-
-  pub search_end : (at trail last : ℕ) → at ≡ 0 → Searched text names count w at trail last → wire_at names last ≡ lookup text w (entries names count)
-  search_end at trail last z s = s.so_far ∙ ap (λ (x : ℕ). lookup text w (entries names (looked count x))) z
+      let here : found' ≡ lookup text w (entries names (suc k)) = (rw e at n) ∙ looked_here text names w k found s.so_far in
+      rw (p, q, e) (record { on = on_next k trail s.on; so_far = here ∙ sym (rw (link_is k trail s.on) (looked_next text names w count s.on.depth k (sym s.on.here))) })
 
   -- ---- for the end
 
-  pub walk_start : (b : ℕ) → b ≡ bucket_of w → b < 256 → trail_of w < 4194304 → Walked text names count w (get_or heads b 0) (trail_of w) 0 0
-  walk_start b e l f = record { on = record { depth = 0; here = on_start b e l; rest = rest_start (trail_of w) f }; behind = refl }
+  pub walk_start : {b h at rest : ℕ} → b ≡ bucket_of w → b < 256 → h ≡ trail_of w → h < 4194304 → at ≡ get_or heads b 0 → rest ≡ h → Walked text names count w at rest 0 0
+  unfolding on_start
+  walk_start {b = b} {h = h} e l g f p q = rw (p, q) (record { on = on_start b h e l g f; behind = refl })
 
-  pub walk_next : (at trail last digit : ℕ) → (at ≡ 0 → ⊥) → Walked text names count w at trail last digit
-      → Walked text names count w (link_at names ((at - 1) * 4) (digit_of trail)) (trail * 6 % 4194304) at (digit_of trail)
-  walk_next zero trail last digit nz s = absurd (nz refl)
-  walk_next (suc k) trail last digit nz s =
+  pub walk_next : {at trail at' trail' last digit digit' : ℕ} → (at ≡ 0 → ⊥) → Walked text names count w at trail last digit
+      → at' ≡ link_at names ((at - 1) * 4) (digit_of trail) → trail' ≡ trail * 6 % 4194304 → digit' ≡ digit_of trail
+      → Walked text names count w at' trail' at digit'
+  unfolding on_next
+  walk_next {at = zero} nz s p q r = absurd (nz refl)
+  walk_next {at = suc k} {trail = trail} nz s p q r =
       let e : suc k - 1 ≡ k = omega arith in
-      rw e (record {
-        on = record { depth = suc s.on.depth; here = on_next k trail s.on; rest = rest_after (suc k) trail s.on };
-        behind = (sym s.on.here, nz, digit_is (trail_of w) s.on.depth trail s.on.rest);
-      })
-
-  pub walk_end : (at trail last digit : ℕ) → at ≡ 0 → Walked text names count w at trail last digit → EndsAt text names count w last digit
-  walk_end at trail last digit z s = record { depth = s.on.depth; ended = sym s.on.here ∙ z; behind = s.behind }
+      rw (p, q, r, e) (record { on = on_next k trail s.on; behind = (sym s.on.here, nz, digit_is (trail_of w) s.on.depth trail s.on.rest) })

@@ -1,6 +1,8 @@
 -- What `define` leaves: the link at the end of the search set, and the record stored.
 -- Assumes nothing.
-use Rattle.std.proofs.Common.{◌≡◌, ℕ, zero, suc, ◌+◌, ◌*◌, ◌/◌, ◌%◌, ◌^◌, ◌<◌, ◌≤◌, Bool, true, false, eqb, List, ◌∷◌, length, get_or, set, sym, refl, ap, ◌∙◌, ap₂, le_refl, add-one, arith, length-set, get_or-set_other, get_or-set_same, below_more, eqb-true}
+use Rattle.std.proofs.Common.{◌≡◌, ℕ, zero, suc, ◌+◌, ◌-◌, ◌*◌, ◌/◌, ◌%◌, ◌^◌, ◌<◌, ◌≤◌, Bool, true, false, eqb, List, [], ◌∷◌, length, get_or, take, sym, refl, ap, ◌∙◌, ap₂, le_refl, add-one, arith, length-set, length-take, length-drop, get_or-take, get_or-set_other, get_or-set_same, below_more, eqb-true}
+use Rattle.std.proofs.lemmas.List.{get_or_append_left, get_or-append_right}
+use borrow.Rule.Slice.PartMut.{put_mid, same_len_mid}
 use borrow.Author.Tests.{eqb-false}
 use Rattle.laws.specs.Stretches.{stretch}
 use Rattle.names.specs.Names.{Entry, name_of}
@@ -8,49 +10,30 @@ use Rattle.names.specs.Chains.{bucket_of, trail_of, digit_at, start_in, len_in, 
 use Rattle.names.proofs.Trails.{digit_small, reached_at}
 use Rattle.names.proofs.Defining.{entries_old, reached_of_old, more_heads, more_links}
 
--- ---- the four words of a record, stored one after the other
+-- ---- the four words of a record, stored
 
 module _ (l : List ℕ) (p name wire : ℕ) (room : p + 4 ≤ length l) where
-  abbrev with_name : List ℕ
-  with_name = set l p name
-
-  abbrev with_wire : List ℕ
-  with_wire = set with_name (p + 1) wire
-
-  abbrev with_links : List ℕ
-  with_links = set with_wire (p + 2) 0
-
   abbrev put : List ℕ
-  put = set with_links (p + 3) 0
+  put = put_mid p (p + 4 - p) l (name ∷ wire ∷ 0 ∷ 0 ∷ [])
+
+  front : length (take p l) ≡ p
+  front = simp length-take (omega arith)
+
+  length_put : length put ≡ length l
+  length_put = same_len_mid p (p + 4 - p) l (name ∷ wire ∷ 0 ∷ 0 ∷ []) (simp (length-take, length-drop) (omega arith))
 
   put_old : (i : ℕ) → i < p → get_or put i 0 ≡ get_or l i 0
-  put_old i h =
-      get_or-set_other with_links (p + 3) i 0 0 (omega arith)
-      ∙ get_or-set_other with_wire (p + 2) i 0 0 (omega arith)
-      ∙ get_or-set_other with_name (p + 1) i wire 0 (omega arith)
-      ∙ get_or-set_other l p i name 0 (omega arith)
+  put_old i h = get_or_append_left (take p l) _ 0 i (omega (arith, front)) ∙ get_or-take p l i 0 h
 
-  put-name : get_or put p 0 ≡ name
-  put-name =
-      get_or-set_other with_links (p + 3) p 0 0 (omega arith)
-      ∙ get_or-set_other with_wire (p + 2) p 0 0 (omega arith)
-      ∙ get_or-set_other with_name (p + 1) p wire 0 (omega arith)
-      ∙ get_or-set_same l p name 0 (omega arith)
-
-  put-wire : get_or put (p + 1) 0 ≡ wire
-  put-wire =
-      get_or-set_other with_links (p + 3) (p + 1) 0 0 (omega arith)
-      ∙ get_or-set_other with_wire (p + 2) (p + 1) 0 0 (omega arith)
-      ∙ get_or-set_same with_name (p + 1) wire 0 (simp length-set (omega arith))
+  put-word : (j i : ℕ) → j < 4 → i ≡ p + j → get_or put i 0 ≡ get_or (name ∷ wire ∷ 0 ∷ 0 ∷ []) j 0
+  put-word j i h e =
+      let q : i - p ≡ j = omega arith in
+      get_or-append_right (take p l) _ p i 0 front (omega arith) ∙ rw q (get_or_append_left (name ∷ wire ∷ 0 ∷ 0 ∷ []) _ 0 j h)
 
   put_links : (x : ℕ) → x < 2 → get_or put (p + 2 + x) 0 ≡ 0
-  put_links zero l =
-      let e : p + 2 + 0 ≡ p + 2 = omega arith in
-      rw e (get_or-set_other with_links (p + 3) (p + 2) 0 0 (omega arith) ∙ get_or-set_same with_wire (p + 2) 0 0 (simp length-set (omega arith)))
-  put_links (suc zero) l =
-      let e : p + 2 + 1 ≡ p + 3 = omega arith in
-      rw e (get_or-set_same with_links (p + 3) 0 0 (simp length-set (omega arith)))
-  put_links (suc (suc x)) l = absurd (omega arith)
+  put_links zero h = put-word 2 _ (omega arith) (omega arith)
+  put_links (suc zero) h = put-word 3 _ (omega arith) (omega arith)
+  put_links (suc (suc x)) h = absurd (omega arith)
 
 -- ---- a link set in its word
 
@@ -129,8 +112,9 @@ headed_here heads b (suc k) n e l = absurd (omega arith)
 -- ---- what `define` leaves
 
 module _
-    (text heads names : List ℕ)
-    (count start len wire b last digit h : ℕ)
+    {text heads names : List ℕ}
+    {count b last digit h : ℕ}
+    (start len wire : ℕ)
     (ok : Table text heads names count)
     (fits : start + len ≤ length text)
     (room : count * 4 + 4 ≤ length names)
@@ -196,7 +180,7 @@ module _
     kept_name k l = kept_word (k * 4) (omega arith) (λ j. omega arith)
 
     new_name : get_or after (count * 4) 0 ≡ name
-    new_name = put-name hung (count * 4) name wire hung_room
+    new_name = put-word hung (count * 4) name wire hung_room 0 _ (omega arith) (omega arith)
 
     entry_old : (k : ℕ) → k < count → entry after k ≡ entry names k
     unfolding entry
@@ -204,7 +188,7 @@ module _
 
     entry_new : entry after count ≡ record { start = start; len = len; wire = wire }
     unfolding entry
-    entry_new = rw (new_name, put-wire hung (count * 4) name wire hung_room, name_is.0, name_is.1)
+    entry_new = rw (new_name, put-word hung (count * 4) name wire hung_room 1 (count * 4 + 1) (omega arith) refl, name_is.0, name_is.1)
 
     bucket_new : bucket_at text after count ≡ c
     unfolding bucket_at
@@ -288,7 +272,7 @@ module _
       table = record {
         sized = ok.sized;
         heads_sized = length-headed heads b last (count + 1) ∙ ok.heads_sized;
-        room = omega (arith, hung_room, length_put);
+        room = omega (arith, hung_room, length_put hung (count * 4) name wire hung_room);
         inside = in_text;
         trail = trails;
         head = λ d g l. heads_are d g l ∙ ap (λ (n : ℕ). reached text after n d g 0) (sym (add-one count));
@@ -297,9 +281,6 @@ module _
       list = ap (entries after) (add-one count) ∙ more_list;
     }
       where
-        length_put : length after ≡ length hung
-        length_put = simp length-set refl
-
         heads_are : (b' h : ℕ) → b' < 256 → get_or heads' b' 0 ≡ reached text after (suc count) b' h 0
         heads_are = more_heads text after count c g last digit bucket_new trail_new ends.depth (same_reached c g ends.depth ∙ ends.ended) behind_new
             heads heads' (λ d h l. ok.head d h l ∙ sym (same_reached d h 0))
@@ -310,7 +291,7 @@ module _
         links_are = more_links text after count c g last digit bucket_new trail_new ends.depth (same_reached c g ends.depth ∙ ends.ended) behind_new
             (λ k x. link_at names (k * 4) x) (λ k x. link_at after (k * 4) x) link_old link_kept link_put link_none
 
-    pub define_leaves : (hs ns : List ℕ) → hs ≡ headed heads b last (count + 1) → ns ≡ linked names last digit (count + 1)
-        → Defined text hs (set (set (set (set ns (count * 4) (start + (len + h * 2097152) * 2097152)) (count * 4 + 1) wire) (count * 4 + 2) 0) (count * 4 + 3) 0) (count + 1)
+    pub define_leaves : {hs ns : List ℕ} → hs ≡ headed heads b last (count + 1) → ns ≡ linked names last digit (count + 1)
+        → Defined text hs (put_mid (count * 4) (count * 4 + 4 - count * 4) ns ((start + (len + h * 2097152) * 2097152) ∷ wire ∷ 0 ∷ 0 ∷ [])) (count + 1)
         (record { start = start; len = len; wire = wire }) (entries names count)
-    define_leaves hs ns p q = rw (p, q) defined
+    define_leaves p q = rw (p, q) defined

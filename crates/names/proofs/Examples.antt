@@ -1,10 +1,10 @@
 -- Worked examples of the definitions, by computation: names of the text "abba", whose wires' words are 5, 7, 9.
 -- Assumes nothing.
+use Rattle.std.specs.Prelude.{None, Some}
 use Rattle.std.proofs.Common.{◌≡◌, ℕ, List, [], ◌∷◌, get_or, refl}
 use Rattle.laws.specs.Stretches.{stretch, same_bytes}
 use Rattle.names.specs.Names.{Entry, lookup}
 use Rattle.names.specs.Chains.{wrapping_sum, word_of, mix_in, mixed, bucket_of, trail_of, rest_of, digit_at, prefix_of, trail_in, entry, entries, link_of, link_at, bucket_at, trail_at, agrees, first, first_after, reached}
-use Rattle.names.specs.declared.Found.TheVariants.{At, Nothing}
 
 abba : List ℕ
 abba = 97 ∷ 98 ∷ 98 ∷ 97 ∷ []
@@ -51,11 +51,11 @@ end_is : reached abba area 2 (bucket_of (98 ∷ 97 ∷ [])) (trail_of (98 ∷ 97
 unfolding abba area reached first first_after agrees prefix_of digit_at rest_of bucket_at trail_at entry bucket_of wrapping_sum trail_of mixed word_of mix_in stretch
 end_is = refl
 
-finds_older : lookup abba (97 ∷ 98 ∷ []) two ≡ At 5
+finds_older : lookup abba (97 ∷ 98 ∷ []) two ≡ Some 5
 unfolding abba two lookup same_bytes stretch
 finds_older = refl
 
-finds_newer : lookup abba (98 ∷ 97 ∷ []) two ≡ At 7
+finds_newer : lookup abba (98 ∷ 97 ∷ []) two ≡ Some 7
 unfolding abba two lookup same_bytes stretch
 finds_newer = refl
 
@@ -64,15 +64,15 @@ finds_newer = refl
 prefixes : List Entry
 prefixes = record { start = 0; len = 4; wire = 9 } ∷ record { start = 0; len = 1; wire = 7 } ∷ record { start = 0; len = 2; wire = 5 } ∷ []
 
-finds_prefix : lookup abba (97 ∷ 98 ∷ []) prefixes ≡ At 5
+finds_prefix : lookup abba (97 ∷ 98 ∷ []) prefixes ≡ Some 5
 unfolding abba prefixes lookup same_bytes stretch
 finds_prefix = refl
 
-finds_whole : lookup abba abba prefixes ≡ At 9
+finds_whole : lookup abba abba prefixes ≡ Some 9
 unfolding abba prefixes lookup same_bytes stretch
 finds_whole = refl
 
-finds_none : lookup abba (97 ∷ 98 ∷ 98 ∷ []) prefixes ≡ Nothing
+finds_none : lookup abba (97 ∷ 98 ∷ 98 ∷ []) prefixes ≡ None
 unfolding abba prefixes lookup same_bytes stretch
 finds_none = refl
 
@@ -82,12 +82,12 @@ empty_bucket : bucket_of (stretch abba 3 0) ≡ 0
 unfolding abba stretch bucket_of wrapping_sum
 empty_bucket = refl
 
-finds_empty : lookup abba (stretch abba 3 0) (record { start = 1; len = 0; wire = 5 } ∷ []) ≡ At 5
+finds_empty : lookup abba (stretch abba 3 0) (record { start = 1; len = 0; wire = 5 } ∷ []) ≡ Some 5
 unfolding abba lookup same_bytes stretch
 finds_empty = refl
 
 -- ---- no names
 
-finds_nothing : lookup abba abba [] ≡ Nothing
+finds_nothing : lookup abba abba [] ≡ None
 unfolding abba lookup
 finds_nothing = refl

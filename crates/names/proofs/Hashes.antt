@@ -1,14 +1,15 @@
 -- Laws of the sums of a name's bytes: four bytes further, and at the end.
 -- Assumes nothing.
-use Rattle.std.proofs.Common.{◌≡◌, ℕ, ◌+◌, ◌-◌, ◌*◌, ◌/◌, ◌%◌, ◌^◌, ◌<◌, ◌≤◌, List, [], ◌∷◌, length, get_or, sym, refl, ap, ◌∙◌, arith}
+use Rattle.std.proofs.Common.{◌≡◌, ℕ, ◌+◌, ◌-◌, ◌*◌, ◌/◌, ◌%◌, ◌^◌, ◌<◌, ◌≤◌, List, [], ◌∷◌, length, get_or, refl, ap, ◌∙◌, arith}
 use Rattle.laws.specs.Stretches.{stretch}
 use Rattle.names.specs.Chains.{wrapping_sum, sum_in, word_of, mix_in, mixed}
 use Rattle.names.proofs.Words.{Bytes, lowest, four_bytes, four_rest}
 
 -- the four bytes of a number, added one after the other
-pub sum_bytes : (s w a b c d : ℕ) → a ≡ (s + w % 256) % 2 ^ 32 → b ≡ (a + w / 256 % 256) % 2 ^ 32 → c ≡ (b + w / 65536 % 256) % 2 ^ 32 → d ≡ (c + w / 16777216) % 2 ^ 32 → d ≡ sum_in s w
+pub sum_bytes : (s w a b c d : ℕ) → a ≡ w % 256 → b ≡ w / 256 % 256 → c ≡ w / 65536 % 256 → d ≡ w / 16777216
+    → ((((s + a) % 2 ^ 32 + b) % 2 ^ 32 + c) % 2 ^ 32 + d) % 2 ^ 32 ≡ sum_in s w
 unfolding sum_in wrapping_sum
-sum_bytes s w a b c d e f g h = rw (sym e, sym f, sym g) h
+sum_bytes s w a b c d e f g h = rw (e, f, g, h) refl
 
 four_sum : (s a b c d : ℕ) → a < 256 → b < 256 → c < 256 → d < 256
     → sum_in s (a + b * 256 + c * 65536 + d * 16777216) ≡ ((((s + a) % 2 ^ 32 + b) % 2 ^ 32 + c) % 2 ^ 32 + d) % 2 ^ 32

@@ -3,7 +3,7 @@
 use Rattle.std.proofs.Common.{◌≡◌, ℕ, zero, suc, ◌+◌, ◌-◌, ◌*◌, ◌/◌, ◌%◌, ◌^◌, ◌<◌, Bool, true, false, List, length, get_or, set, refl, ap, arith}
 use Rattle.laws.specs.Stretches.{same_bytes}
 use Rattle.laws.proofs.Stretches.{same_eq}
-use Rattle.names.specs.Chains.{trail_of, len_in, trail_in, link_of, link_unit, headed, linked, LinkFits}
+use Rattle.names.specs.Chains.{trail_of, len_in, trail_in, link_of, link_unit, headed, linked}
 
 -- a link by a shift
 pub link_shifted : (w place : ℕ) → place < 3 → w / 2 ^ (place * 21) % 2097152 ≡ link_of w place
@@ -12,17 +12,6 @@ link_shifted w zero l = omega arith
 link_shifted w (suc zero) l = omega arith
 link_shifted w (suc (suc zero)) l = omega arith
 link_shifted w (suc (suc (suc place))) l = absurd (omega arith)
-
-pub unit_low : (x : ℕ) → x ≡ 0 → 1 ≡ link_unit x
-unfolding link_unit
-unit_low zero e = refl
-unit_low (suc x) e = absurd (omega arith)
-
-pub unit_middle : (x : ℕ) → x ≡ 1 → 2097152 ≡ link_unit x
-unfolding link_unit
-unit_middle zero e = absurd (omega arith)
-unit_middle (suc zero) e = refl
-unit_middle (suc (suc x)) e = absurd (omega arith)
 
 pub unit_high : (x : ℕ) → (x ≡ 0 → ⊥) → (x ≡ 1 → ⊥) → 4398046511104 ≡ link_unit x
 unfolding link_unit
@@ -42,9 +31,6 @@ other_key a b word len key k l m q ne = go (same_bytes a b) refl
         let s = same_eq a b e in
         absurd (ne (omega (arith, k, l, m, q, ap length s, ap trail_of s)))
 
-pub same_key : (word len trail key : ℕ) → len < 2097152 → key ≡ len + trail * 2097152 → word / 2097152 ≡ key → len_in word ≡ len
-same_key word len trail key l k e = omega arith
-
 -- ---- a link set behind a head, and behind a record
 
 pub at_head : (heads names : List ℕ) (b last digit n : ℕ) → last ≡ 0 → (set heads b n ≡ headed heads b last n) × (names ≡ linked names last digit n)
@@ -59,10 +45,3 @@ at_record heads names b zero digit n u e q = absurd (e refl)
 at_record heads names b (suc k) digit n u e q =
     let r : suc k - 1 ≡ k = omega arith in
     (refl, rw (r, q))
-
-pub fits_record : (names : List ℕ) (last digit n u : ℕ) → (last ≡ 0 → ⊥) → u ≡ link_unit (digit / 2) → LinkFits names last digit n
-    → ((last - 1) * 4 + 2 + digit % 2 < length names) × (get_or names ((last - 1) * 4 + 2 + digit % 2) 0 + n * u < 2 ^ 64)
-fits_record names zero digit n u e q f = absurd (e refl)
-fits_record names (suc k) digit n u e q f =
-    let r : suc k - 1 ≡ k = omega arith in
-    rw (r, q) f

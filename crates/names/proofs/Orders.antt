@@ -1,5 +1,6 @@
 -- The empty table is in order; entries with distinct names may be searched from either end.
 -- Assumes nothing.
+use Rattle.std.specs.Prelude.{None, Option, Some}
 use Rattle.std.proofs.Common.{◌≡◌, ℕ, zero, suc, ◌<◌, Bool, true, false, cond, List, [], ◌∷◌, ◌++◌, reverse, length, replicate, sym, refl, ap, ◌∙◌, arith}
 use mathlib.Core.List.{reverse-cons}
 use lib.ListN.{length-replicate, get_or-replicate}
@@ -8,8 +9,6 @@ use Rattle.laws.proofs.Stretches.{same_eq}
 use Rattle.names.specs.Names.{Entry, name_of, lookup}
 use Rattle.names.specs.Chains.{entries, agrees, first, first_after, reached, Table}
 use Rattle.names.proofs.First.{after_last}
-use Rattle.names.specs.declared.Found.{Found}
-use Rattle.names.specs.declared.Found.TheVariants.{At, Nothing}
 
 none-reached : (text names : List ℕ) (b h d : ℕ) → reached text names 0 b h d ≡ 0
 unfolding reached first
@@ -34,15 +33,15 @@ no_entries names = refl
 
 abbrev pub Distinct : List ℕ → List Entry → Type 0
 Distinct text [] = Unit {0}
-Distinct text (e ∷ es) = (lookup text (name_of text e) es ≡ Nothing) × Distinct text es
+Distinct text (e ∷ es) = (lookup text (name_of text e) es ≡ None) × Distinct text es
 
-abbrev or_else : Found → Found → Found
-or_else (At w) f = At w
-or_else Nothing f = f
+abbrev or_else : (Option ℕ) → (Option ℕ) → (Option ℕ)
+or_else (Some w) f = Some w
+or_else None f = f
 
-or_else_nothing : (f : Found) → or_else f Nothing ≡ f
-or_else_nothing (At w) = refl
-or_else_nothing Nothing = refl
+or_else_nothing : (f : (Option ℕ)) → or_else f None ≡ f
+or_else_nothing (Some w) = refl
+or_else_nothing None = refl
 
 lookup_snoc : (text w : List ℕ) (xs : List Entry) (e : Entry) → lookup text w (xs ++ (e ∷ [])) ≡ or_else (lookup text w xs) (lookup text w (e ∷ []))
 unfolding lookup
@@ -50,7 +49,7 @@ lookup_snoc text w [] e = refl
 lookup_snoc text w (x ∷ xs) e = go (same_bytes (name_of text x) w) (lookup_snoc text w xs e)
   where
     go : (t : Bool) → lookup text w (xs ++ (e ∷ [])) ≡ or_else (lookup text w xs) (lookup text w (e ∷ []))
-        → cond t (At x.wire) (lookup text w (xs ++ (e ∷ []))) ≡ or_else (cond t (At x.wire) (lookup text w xs)) (lookup text w (e ∷ []))
+        → cond t (Some x.wire) (lookup text w (xs ++ (e ∷ []))) ≡ or_else (cond t (Some x.wire) (lookup text w xs)) (lookup text w (e ∷ []))
     go true h = refl
     go false h = h
 
@@ -59,10 +58,10 @@ pub either_end : (text w : List ℕ) (es : List Entry) → Distinct text es → 
 unfolding lookup
 either_end text w [] d = refl
 either_end text w (e ∷ es) d =
-    rw (reverse-cons e es) (lookup_snoc text w (reverse es) e ∙ ap (λ (f : Found). or_else f (lookup text w (e ∷ []))) (either_end text w es d.1) ∙ go (same_bytes (name_of text e) w) refl)
+    rw (reverse-cons e es) (lookup_snoc text w (reverse es) e ∙ ap (λ (f : (Option ℕ)). or_else f (lookup text w (e ∷ []))) (either_end text w es d.1) ∙ go (same_bytes (name_of text e) w) refl)
   where
     go : (t : Bool) → same_bytes (name_of text e) w ≡ t → or_else (lookup text w es) (lookup text w (e ∷ [])) ≡ lookup text w (e ∷ es)
     go true q =
-        let n : lookup text w es ≡ Nothing = ap (λ (v : List ℕ). lookup text v es) (sym (same_eq _ _ q)) ∙ d.0 in
+        let n : lookup text w es ≡ None = ap (λ (v : List ℕ). lookup text v es) (sym (same_eq _ _ q)) ∙ d.0 in
         rw (q, n)
     go false q = rw q (or_else_nothing (lookup text w es))

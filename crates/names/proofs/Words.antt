@@ -1,8 +1,9 @@
 -- Laws of the bytes of a stretch as numbers.
 -- Assumes nothing.
-use Rattle.std.proofs.Common.{◌≡◌, ℕ, zero, suc, ◌+◌, ◌-◌, ◌*◌, ◌/◌, ◌%◌, ◌^◌, ◌<◌, ◌≤◌, Bool, true, false, List, [], ◌∷◌, length, get_or, take, drop, sym, refl, ap, ◌∙◌, ap₂, arith, get_or-drop}
+use Rattle.std.proofs.Common.{◌≡◌, ℕ, zero, suc, ◌+◌, ◌-◌, ◌*◌, ◌/◌, ◌%◌, ◌^◌, ◌<◌, ◌≤◌, Bool, ◌&&◌, eqb, List, [], ◌∷◌, length, get_or, take, drop, refl, ap, ◌∙◌, ap₂, arith, get_or-drop}
+use Rattle.std.specs.Cmp.Lexicographic.{pointwise}
 use Rattle.laws.specs.Stretches.{stretch, same_bytes}
-use Rattle.laws.proofs.Stretches.{rest_step, head_step, stretch-none, length-stretch, same_eq, same_refl, same_on}
+use Rattle.laws.proofs.Stretches.{rest_step, head_step, stretch-none}
 use Rattle.names.specs.Chains.{word_of}
 
 -- each element is a byte
@@ -13,21 +14,8 @@ bytes_rest : (a : ℕ) (l : List ℕ) → Bytes (a ∷ l) → Bytes l
 bytes_rest a l f i = f (suc i)
 
 -- a byte and what is above it
-pub peel : (a b p q : ℕ) → a < 256 → b < 256 → a + p * 256 ≡ b + q * 256 → (a ≡ b) × (p ≡ q)
-peel a b p q f g e = (omega arith, omega arith)
-
 pub lowest : (a q : ℕ) → a < 256 → ((a + q * 256) % 256 ≡ a) × ((a + q * 256) / 256 ≡ q)
 lowest a q f = (omega arith, omega arith)
-
--- bytes of one number are the same
-pub word_eq : (l m : List ℕ) → Bytes l → Bytes m → length l ≡ length m → word_of l ≡ word_of m → l ≡ m
-unfolding word_of
-word_eq [] [] f g n e = refl
-word_eq [] (b ∷ m) f g n e = absurd (omega arith)
-word_eq (a ∷ l) [] f g n e = absurd (omega arith)
-word_eq (a ∷ l) (b ∷ m) f g n e =
-    let p = peel a b (word_of l) (word_of m) (f 0) (g 0) e in
-    ap₂ (λ (x : ℕ) (xs : List ℕ). x ∷ xs) p.0 (word_eq l m (bytes_rest a l f) (bytes_rest b m g) (omega arith) p.1)
 
 -- ---- the number of a short stretch
 
@@ -54,26 +42,12 @@ word_three t p h =
     rw (head_step t p 3 (omega arith) h) (omega (arith, w))
 
 -- the bytes that are too many cut off
-pub word_cut : (t : List ℕ) (p n : ℕ) → Bytes t → n < 4 → p + 4 ≤ length t → four_bytes t p % (1 * 2 ^ (n * 8) % 2 ^ 64) ≡ word_of (stretch t p n)
+pub word_cut : (t : List ℕ) (p n : ℕ) → Bytes t → n < 4 → p + 4 ≤ length t → four_bytes t p % (1 * 2 ^ (n * 8) % 2 ^ 32) ≡ word_of (stretch t p n)
 word_cut t p zero f l h = omega (arith, word_none t p)
 word_cut t p (suc zero) f l h = omega (arith, word-one t p (omega arith), f p)
 word_cut t p (suc (suc zero)) f l h = omega (arith, word_two t p (omega arith), f p, f (p + 1))
 word_cut t p (suc (suc (suc zero))) f l h = omega (arith, word_three t p (omega arith), f p, f (p + 1), f (p + 2))
 word_cut t p (suc (suc (suc (suc n)))) f l h = absurd (omega arith)
-
-pub word_small : (t : List ℕ) (p n w : ℕ) → Bytes t → n < 4 → p + n ≤ length t → w ≡ word_of (stretch t p n) → w < 2 ^ 32
-word_small t p zero w f l h e = omega (arith, word_none t p)
-word_small t p (suc zero) w f l h e = omega (arith, word-one t p (omega arith), f p)
-word_small t p (suc (suc zero)) w f l h e = omega (arith, word_two t p (omega arith), f p, f (p + 1))
-word_small t p (suc (suc (suc zero))) w f l h e = omega (arith, word_three t p (omega arith), f p, f (p + 1), f (p + 2))
-word_small t p (suc (suc (suc (suc n)))) w f l h e = absurd (omega arith)
-
-pub cut_by : (n : ℕ) → n < 4 → 1 ≤ 1 * 2 ^ (n * 8) % 2 ^ 64
-cut_by zero l = omega arith
-cut_by (suc zero) l = omega arith
-cut_by (suc (suc zero)) l = omega arith
-cut_by (suc (suc (suc zero))) l = omega arith
-cut_by (suc (suc (suc (suc n)))) l = absurd (omega arith)
 
 -- ---- stretches compared
 
@@ -105,37 +79,17 @@ four_rest t s n i h k =
     rest_step t s n (i * 4 + 1 + 1 + 1) (omega arith) k
     ∙ ap₂ ◌∷◌ (ap (λ (x : ℕ). get_or t x 0) three) (ap (λ (x : ℕ). stretch t (s + x) (n - x)) four))))
 
-module _ (t : List ℕ) (a b n i : ℕ) (f : Bytes t) (h : a + n ≤ length t) (k : b + n ≤ length t) where
-  pub four_same : i < n / 4 → four_bytes t (a + i * 4) ≡ four_bytes t (b + i * 4)
-      → same_bytes (stretch t (a + (i + 1) * 4) (n - (i + 1) * 4)) (stretch t (b + (i + 1) * 4) (n - (i + 1) * 4)) ≡ same_bytes (stretch t (a + i * 4) (n - i * 4)) (stretch t (b + i * 4) (n - i * 4))
-  four_same l e =
-      let v : ℕ → ℕ → ℕ = λ p j. get_or t (p + i * 4 + j) 0 in
-      let u : get_or t (a + i * 4) 0 + (v a 1 + (v a 2 + v a 3 * 256) * 256) * 256 ≡ get_or t (b + i * 4) 0 + (v b 1 + (v b 2 + v b 3 * 256) * 256) * 256 = omega (arith, e) in
-      let z = peel _ _ _ _ (f (a + i * 4)) (f (b + i * 4)) u in
-      let y = peel _ _ _ _ (f (a + i * 4 + 1)) (f (b + i * 4 + 1)) z.1 in
-      let x = peel _ _ _ _ (f (a + i * 4 + 2)) (f (b + i * 4 + 2)) y.1 in
-      rw (four_rest t a n i l h, four_rest t b n i l k)
-      (same_on _ _ _ _ x.1 ∙ same_on _ _ _ _ x.0 ∙ same_on _ _ _ _ y.0 ∙ same_on _ _ _ _ z.0)
+-- `==` of two parts of a text
+equal_is_same : (x y : List ℕ) → pointwise eqb x y ≡ same_bytes x y
+unfolding same_bytes
+equal_is_same [] [] = refl
+equal_is_same [] (y ∷ ys) = refl
+equal_is_same (x ∷ xs) [] = refl
+equal_is_same (x ∷ xs) (y ∷ ys) = ap (λ (t : Bool). eqb x y && t) (equal_is_same xs ys)
 
-  pub four_not : i < n / 4 → (four_bytes t (a + i * 4) ≡ four_bytes t (b + i * 4) → ⊥) → false ≡ same_bytes (stretch t (a + i * 4) (n - i * 4)) (stretch t (b + i * 4) (n - i * 4))
-  four_not l ne = go (same_bytes (stretch t (a + i * 4) (n - i * 4)) (stretch t (b + i * 4) (n - i * 4))) refl
-    where
-      go : (r : Bool) → same_bytes (stretch t (a + i * 4) (n - i * 4)) (stretch t (b + i * 4) (n - i * 4)) ≡ r → false ≡ r
-      go false e = refl
-      go true e =
-          let q = sym (four_rest t a n i l h) ∙ same_eq _ _ e ∙ four_rest t b n i l k in
-          absurd (ne (omega (arith, ap (λ (x : List ℕ). get_or x 0 0) q, ap (λ (x : List ℕ). get_or x 1 0) q, ap (λ (x : List ℕ). get_or x 2 0) q, ap (λ (x : List ℕ). get_or x 3 0) q)))
-
--- what is left compared as numbers
-module _ (t : List ℕ) (a b n : ℕ) (f : Bytes t) (h : a + n ≤ length t) (k : b + n ≤ length t) where
-  pub last_same : word_of (stretch t a n) ≡ word_of (stretch t b n) → true ≡ same_bytes (stretch t a n) (stretch t b n)
-  last_same e =
-      let q = word_eq (stretch t a n) (stretch t b n) (bytes_stretch t a n f) (bytes_stretch t b n f) (length-stretch t a n h ∙ sym (length-stretch t b n k)) e in
-      sym (same_refl (stretch t b n)) ∙ ap (λ (x : List ℕ). same_bytes x (stretch t b n)) (sym q)
-
-  pub last_not : (word_of (stretch t a n) ≡ word_of (stretch t b n) → ⊥) → false ≡ same_bytes (stretch t a n) (stretch t b n)
-  last_not ne = go (same_bytes (stretch t a n) (stretch t b n)) refl
-    where
-      go : (r : Bool) → same_bytes (stretch t a n) (stretch t b n) ≡ r → false ≡ r
-      go false e = refl
-      go true e = absurd (ne (ap word_of (same_eq _ _ e)))
+pub equal_parts : (t : List ℕ) (a b n : ℕ) → pointwise eqb (take (a + n - a) (drop a t)) (take (b + n - b) (drop b t)) ≡ same_bytes (stretch t a n) (stretch t b n)
+unfolding stretch
+equal_parts t a b n =
+    let e : a + n - a ≡ n = omega arith in
+    let f : b + n - b ≡ n = omega arith in
+    rw (e, f) (equal_is_same (take n (drop a t)) (take n (drop b t)))

@@ -1,53 +1,30 @@
 // The table of names: 256 chain heads, and records of four words in a lent area: a name and its trail, its wire, and six links.
+// Words of a lent area, with no heap: the C interface fixes them.
 
 #![tactic(auto)]
 
-ghost use Rattle.std.specs.Prelude.{◌≡◌, ◌+◌, ◌*◌, ◌%◌, ◌<◌, ◌≤◌, length, if◌then◌else◌};
+ghost use Rattle.std.specs.Prelude.{◌≡◌, ◌+◌, ◌-◌, ◌*◌, ◌%◌, ◌<◌, ◌≤◌, length, slice_index};
 ghost use Rattle.laws.specs.Stretches.{stretch, same_bytes};
 ghost use Rattle.names.specs.Names.{lookup};
-ghost use Rattle.names.specs.Chains.{bucket_of, trail_of, start_in, len_in, trail_in, entries, link_unit, link_at, headed, linked, LinkFits, Table, EndsAt, Defined};
+ghost use Rattle.names.specs.Chains.{bucket_of, trail_of, digit_of, start_in, len_in, trail_in, entries, link_unit, link_at, headed, linked, LinkFits, Table, EndsAt, Defined};
 
-use crate::hashing::{four_bytes, hash_of, last_bytes};
+use crate::hashing::{Hash, hash_of};
+use text::words::Word;
 
 pub mod hashing;
 
-// The wire's word of a name, or that there is no such name.
-#[derive(Clone, Copy)]
-pub enum Found {
-    At(usize),
-    Nothing,
-}
+// How many values 21 bits have: a start, a length, a link.
+const FIELD: usize = 1 << 21;
 
-// Where a search ends: the chain, the last record on the way (0: none), the digit that chose its link, and the name's trail.
-#[derive(Clone, Copy)]
-pub struct End {
-    pub bucket: usize,
-    pub last: usize,
-    pub digit: usize,
-    pub trail: usize,
-}
+// How many trails there are.
+const TRAILS: usize = 1 << 22;
 
-// Whether two stretches of one length hold the same name: four bytes at a time, then what is left.
-pub fn same_name(text: &[u8], a: usize, b: usize, len: usize) -> bool
-    requires { (a + len ≤ length text.now) × (b + len ≤ length text.now) }
-    ensures { result ≡ same_bytes (stretch text.now a len) (stretch text.now b len) }
+// Whether a word's bytes stand from a place on.
+pub fn same_name(text: &[u8], start: usize, word: Word) -> bool
+    requires { (start + word.len ≤ length text.now) × (word.start + word.len ≤ length text.now) }
+    ensures { result ≡ same_bytes (stretch text.now start word.len) (stretch text.now word.start word.len) }
 {
-    let words = len / 4;
-    let mut i = 0;
-    while i < words {
-        let x = four_bytes(text, a + i * 4);
-        let y = four_bytes(text, b + i * 4);
-        if x != y {
-            return false;
-        }
-        i += 1;
-    }
-    let x = last_bytes(text, a + words * 4, len - words * 4);
-    let y = last_bytes(text, b + words * 4, len - words * 4);
-    if x != y {
-        return false;
-    }
-    true
+    &text[start..start + word.len] == &text[word.start..word.start + word.len]
 }
 
 // The link that a digit chooses in the record at `base`.
@@ -55,156 +32,177 @@ pub fn link(names: &[usize], base: usize, digit: usize) -> usize
     requires { (base + 4 ≤ length names.now) × (digit < 6) }
     ensures { result ≡ link_at names.now base digit }
 {
-    let word = names[base + 2 + digit % 2];
-    (word >> (digit / 2 * 21)) % 2097152
+    (names[base + 2 + digit % 2] >> (digit / 2 * 21)) % FIELD
 }
 
 // What a link adds to its word.
 pub fn link_unit(place: usize) -> usize
     ensures { result ≡ link_unit place }
 {
-    if place == 0 {
-        return 1;
-    }
-    if place == 1 {
-        return 2097152;
-    }
-    4398046511104
-}
-
-// Whether the record with this first word has a name of that length and trail (`key`). Names of another are not looked at.
-pub fn has_name(text: &[u8], start: usize, len: usize, key: usize, word: usize) -> bool
-    requires word_in_bounds { (start_in word + len_in word ≤ length text.now) × (start + len ≤ length text.now) × (len < 2097152) }
-    requires key_value { (key ≡ len + trail_of (stretch text.now start len) * 2097152) × (trail_in word ≡ trail_of (stretch text.now (start_in word) (len_in word))) }
-    ensures { result ≡ same_bytes (stretch text.now (start_in word) (len_in word)) (stretch text.now start len) }
-{
-    if word / 2097152 != key {
-        return false;
-    }
-    same_name(text, word % 2097152, start, len)
-}
-
-// The record at hand if it has the name, else the last that had.
-pub fn newer(same: bool, at: usize, last: usize) -> usize
-    ensures { result ≡ (if same then at else last) }
-{
-    if same {
-        return at;
-    }
-    last
-}
-
-// The wire's word of a name.
-pub fn find(
-    text: &[u8],
-    start: usize,
-    len: usize,
-    heads: &[usize; 256],
-    names: &[usize],
-    count: usize,
-) -> Found
-    requires table { Table text.now heads.now names.now count }
-    requires len_in_bounds { start + len ≤ length text.now }
-    ensures { result ≡ lookup text.now (stretch text.now start len) (entries names.now count) }
-{
-    let hash = hash_of(text, start, len);
-    let b = hash.bucket;
-    let trail = hash.trail;
-    let key = len + trail * 2097152;
-    let mut rest = trail;
-    let mut at = heads[b];
-    let mut last = 0;
-    while at != 0 {
-        let base = (at - 1) * 4;
-        let word = names[base];
-        let same = has_name(text, start, len, key, word);
-        last = newer(same, at, last);
-        at = link(names, base, rest * 6 / 4194304);
-        rest = rest * 6 % 4194304;
-    }
-    if last == 0 {
-        return Found::Nothing;
-    }
-    Found::At(names[(last - 1) * 4 + 1])
-}
-
-// Where the search for a name ends, whether it is there or not.
-pub fn end_of(
-    text: &[u8],
-    start: usize,
-    len: usize,
-    heads: &[usize; 256],
-    names: &[usize],
-    count: usize,
-) -> End
-    requires table { Table text.now heads.now names.now count }
-    requires len_in_bounds { start + len ≤ length text.now }
-    ensures bucket_value { (result.bucket ≡ bucket_of (stretch text.now start len)) × (result.bucket < 256) }
-    ensures trail_value { (result.trail ≡ trail_of (stretch text.now start len)) × (result.trail < 4194304) }
-    ensures ends_at { EndsAt text.now names.now count (stretch text.now start len) result.last result.digit }
-{
-    let hash = hash_of(text, start, len);
-    let b = hash.bucket;
-    let trail = hash.trail;
-    let mut rest = trail;
-    let mut at = heads[b];
-    let mut last = 0;
-    let mut digit = 0;
-    while at != 0 {
-        let base = (at - 1) * 4;
-        last = at;
-        digit = rest * 6 / 4194304;
-        at = link(names, base, digit);
-        rest = rest * 6 % 4194304;
-    }
-    End {
-        bucket: b,
-        last,
-        digit,
-        trail,
+    match place {
+        0 => 1,
+        1 => FIELD,
+        _ => FIELD * FIELD,
     }
 }
 
-// The link at the end of a search, or the head, set to a record.
-pub fn hang(end: End, at: usize, heads: &mut [usize; 256], names: &mut [usize])
-    requires bucket_bound { end.bucket < 256 }
-    requires link_fits { LinkFits names.old end.last end.digit at }
-    ensures heads_after { heads.new ≡ headed heads.old end.bucket end.last at }
-    ensures names_after { names.new ≡ linked names.old end.last end.digit at }
+// Whether the record with the first word `packed` has a name of that length and trail (`key`). Names of another are not looked at.
+pub fn has_name(text: &[u8], word: Word, key: usize, packed: usize) -> bool
+    requires word_in_bounds { (start_in packed + len_in packed ≤ length text.now) × (word.start + word.len ≤ length text.now) × (word.len < 2097152) }
+    requires key_value { (key ≡ word.len + trail_of (stretch text.now word.start word.len) * 2097152) × (trail_in packed ≡ trail_of (stretch text.now (start_in packed) (len_in packed))) }
+    ensures { result ≡ same_bytes (stretch text.now (start_in packed) (len_in packed)) (stretch text.now word.start word.len) }
 {
-    let last = end.last;
-    let bucket = end.bucket;
-    if last == 0 {
-        heads[bucket] = at;
-        return;
+    packed / FIELD == key && same_name(text, packed % FIELD, word)
+}
+
+// How far a search has come: the record at hand, and the rest of the trail.
+// A record goes by the number that links to it, one more than its own, and none by 0: so the lent words hold it, whose form the C interface fixes.
+#[derive(Clone, Copy)]
+pub struct Walk {
+    pub at: usize,
+    pub rest: usize,
+}
+
+impl Walk {
+    // The digit that chooses the next link.
+    pub fn digit(self) -> usize
+        requires { self.rest < 4194304 }
+        ensures { (result ≡ digit_of self.rest) × (result < 6) }
+    {
+        self.rest * 6 / TRAILS
     }
-    let digit = end.digit;
-    let unit = link_unit(digit / 2);
-    let place = (last - 1) * 4 + 2 + digit % 2;
-    names[place] = names[place] + at * unit;
+
+    // One link further.
+    pub fn step(self, names: &[usize]) -> Walk
+        requires { (0 < self.at) × (self.at * 4 ≤ length names.now) × (self.rest < 4194304) }
+        ensures next_at { result.at ≡ link_at names.now ((self.at - 1) * 4) (digit_of self.rest) }
+        ensures next_rest { result.rest ≡ self.rest * 6 % 4194304 }
+    {
+        Walk {
+            at: link(names, (self.at - 1) * 4, self.digit()),
+            rest: self.rest * 6 % TRAILS,
+        }
+    }
+}
+
+// Where a search ends: the chain, the last record on the way (by the number that links to it), the digit that chose its link, and the name's trail.
+#[derive(Clone, Copy)]
+pub struct End {
+    pub bucket: u8,
+    pub last: usize,
+    pub digit: usize,
+    pub trail: usize,
+}
+
+impl End {
+    // The link at the end of a search, or the head, set to a record.
+    pub fn hang(self, at: usize, heads: &mut [usize; 256], names: &mut [usize])
+        requires link_fits { LinkFits names.old self.last self.digit at }
+        ensures heads_after { heads.new ≡ headed heads.old self.bucket self.last at }
+        ensures names_after { names.new ≡ linked names.old self.last self.digit at }
+    {
+        if self.last == 0 {
+            heads[usize::from(self.bucket)] = at;
+        } else {
+            let place = (self.last - 1) * 4 + 2 + self.digit % 2;
+            names[place] += at * link_unit(self.digit / 2);
+        }
+    }
+}
+
+// A table to be searched: the text of its names, its heads, and how many records of its area are used.
+#[derive(Clone, Copy)]
+pub struct NameTable<'a> {
+    pub text: &'a [u8],
+    pub heads: &'a [usize; 256],
+    pub names: &'a [usize],
+    pub count: usize,
+    ghost in_order: { Table text.now heads.now names.now count },
+}
+
+impl<'a> NameTable<'a> {
+    // The wire's word of a name, if it is there.
+    pub fn find(&self, word: Word) -> Option<usize>
+        requires len_in_bounds { word.start + word.len ≤ length self.now.text.now }
+        ensures { result ≡ lookup self.now.text.now (stretch self.now.text.now word.start word.len) (entries self.now.names.now self.now.count) }
+    {
+        let text = self.text;
+        let names = self.names;
+        let hash = hash_of(text, word);
+        let key = word.len + hash.trail * FIELD;
+        let mut walk = self.start(hash);
+        let mut found = None;
+        // Along the chain, whose end no count tells before.
+        while walk.at != 0 {
+            let base = (walk.at - 1) * 4;
+            if has_name(text, word, key, names[base]) {
+                found = Some(names[base + 1]);
+            }
+            walk = walk.step(names);
+        }
+        found
+    }
+
+    // Where the search for a name ends, whether it is there or not.
+    pub fn end_of(&self, word: Word) -> End
+        requires len_in_bounds { word.start + word.len ≤ length self.now.text.now }
+        ensures bucket_value { result.bucket ≡ bucket_of (stretch self.now.text.now word.start word.len) }
+        ensures trail_value { (result.trail ≡ trail_of (stretch self.now.text.now word.start word.len)) × (result.trail < 4194304) }
+        ensures ends_at { EndsAt self.now.text.now self.now.names.now self.now.count (stretch self.now.text.now word.start word.len) result.last result.digit }
+    {
+        let hash = hash_of(self.text, word);
+        let mut walk = self.start(hash);
+        let mut last = 0;
+        let mut digit = 0;
+        // Along the chain, whose end no count tells before.
+        while walk.at != 0 {
+            last = walk.at;
+            digit = walk.digit();
+            walk = walk.step(self.names);
+        }
+        End {
+            bucket: hash.bucket,
+            last,
+            digit,
+            trail: hash.trail,
+        }
+    }
+
+    // Where the search for a name of a hash starts.
+    fn start(&self, hash: Hash) -> Walk
+        ensures first_at { result.at ≡ slice_index self.now.heads.now hash.bucket }
+        ensures first_rest { result.rest ≡ hash.trail }
+    {
+        Walk {
+            at: self.heads[usize::from(hash.bucket)],
+            rest: hash.trail,
+        }
+    }
 }
 
 // One record more, at the end of its search.
 pub fn define(
     text: &[u8],
-    start: usize,
-    len: usize,
+    word: Word,
     wire: usize,
     heads: &mut [usize; 256],
     names: &mut [usize],
     count: usize,
 )
     requires table { Table text.now heads.old names.old count }
-    requires len_in_bounds { start + len ≤ length text.now }
+    requires len_in_bounds { word.start + word.len ≤ length text.now }
     requires count_in_bounds { (count * 4 + 4 ≤ length names.old) × (count < 1048576) }
-    ensures { Defined text.now heads.new names.new (count + 1) (record { start = start; len = len; wire = wire }) (entries names.old count) }
+    ensures { Defined text.now heads.new names.new (count + 1) (record { start = word.start; len = word.len; wire = wire }) (entries names.old count) }
 {
-    let end = end_of(text, start, len, heads, names, count);
-    let name = start + (len + end.trail * 2097152) * 2097152;
-    hang(end, count + 1, heads, names);
+    let table = NameTable {
+        text,
+        heads,
+        names,
+        count,
+    };
+    let end = table.end_of(word);
+    let packed = word.start + (word.len + end.trail * FIELD) * FIELD;
+    end.hang(count + 1, heads, names);
     let at = count * 4;
-    names[at] = name;
-    names[at + 1] = wire;
-    names[at + 2] = 0;
-    names[at + 3] = 0;
+    names[at..at + 4].copy_from_slice(&[packed, wire, 0, 0]);
 }

@@ -6,54 +6,43 @@ ghost use Rattle.std.specs.Prelude.{◌≡◌};
 ghost use Rattle.node_slices.specs.Slices.{slice_fault};
 
 use circuit::records::{BoolNode, BoolWire, Name, NodeNumber, WireNumber};
-use circuit::refusals::{Checked, refusal_number};
+use circuit::refusals::Refusal;
 use std::io;
 
 // The array is lent as a slice: its callers pass it by value.
-fn check_array(nodes: [BoolNode; 5], outputs: &[usize]) -> Checked
+fn check_array(nodes: [BoolNode; 5], outputs: &[usize]) -> Result<(), Refusal>
     ensures { result ≡ slice_fault nodes outputs.now }
 {
     node_slices::check_circuit_slice(&nodes, outputs)
 }
 
 fn input(k: usize) -> BoolNode {
-    let name = Name::Number(WireNumber(k));
-    let none = BoolWire::Const(false);
     BoolNode {
         kind: 1,
         count: 0,
         table: 0,
-        name,
-        first: none,
-        second: none,
+        name: Name::Number(WireNumber(k)),
+        first: BoolWire::Const(false),
+        second: BoolWire::Const(false),
     }
 }
 
 fn cell(k: usize, count: usize, table: usize, a: usize, b: usize) -> BoolNode {
-    let name = Name::Number(WireNumber(k));
-    let first = BoolWire::Node(NodeNumber(a));
-    let second = BoolWire::Node(NodeNumber(b));
     BoolNode {
         kind: 2,
         count,
         table,
-        name,
-        first,
-        second,
+        name: Name::Number(WireNumber(k)),
+        first: BoolWire::Node(NodeNumber(a)),
+        second: BoolWire::Node(NodeNumber(b)),
     }
 }
 
-fn show(rt: &impl Print, answer: Checked) -> io::Result<()> {
+fn show(rt: &impl Print, answer: Result<(), Refusal>) -> io::Result<()> {
     match answer {
-        Checked::Sound => println!(rt; "0"),
-        Checked::Refused(e) => {
-            let number = refusal_number(e);
-            if number == 15 || number == 16 {
-                println!(rt; "{number}")
-            } else {
-                println!(rt; "another")
-            }
-        }
+        Ok(()) => println!(rt; "0"),
+        Err(e @ (Refusal::Broken | Refusal::NotEarlier)) => println!(rt; "{}", usize::from(e)),
+        Err(_) => println!(rt; "another"),
     }
 }
 

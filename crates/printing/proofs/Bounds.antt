@@ -1,5 +1,7 @@
 -- How many records, cells and bytes there can be: what the lent areas hold.
 -- Assumes nothing.
+use Rattle.std.specs.Prelude.{Err, Ok}
+use Rattle.circuit.specs.declared.records.Sizes.{Sizes}
 use Prim.Native.Nat.{ℕ, zero, suc, ◌-◌, ◌/◌, ◌≤◌}
 use mathlib.Core.Path.{◌≡◌, refl, sym, ap, subst}
 use mathlib.Core.Bool.{Bool, true, false}
@@ -10,25 +12,16 @@ use lib.ListN.{length, length-append, length-replicate, length-take, take, repli
 use Rattle.laws.specs.Lists.{keep, numbers}
 use Rattle.laws.specs.Areas.{encodes}
 use Rattle.laws.proofs.Areas.{length-encodes}
-use Rattle.circuit.specs.declared.refusals.Read.{Read}
-use Rattle.circuit.specs.declared.refusals.Read.TheVariants.{Circuit as Accepted}
-use Rattle.circuit.specs.declared.refusals.Checked.{Checked}
-use Rattle.circuit.specs.declared.refusals.Checked.TheVariants.{Sound, Refused as Faulty}
-use Rattle.circuit.specs.Refusals.{Try, no, yes}
+use Rattle.circuit.specs.Refusals.{Checked}
+use Rattle.circuit.specs.Refusals.{Try}
 use Rattle.circuit.specs.Circuits.{Circuit, filled, read_answer, node_words, output_words}
 use Rattle.circuit.specs.Records.{encode_node, encode_output, nodes_of}
 use Rattle.circuit.specs.Graph.{vertex_of, graph_of, is_cell, cells_of}
 use Rattle.circuit.proofs.Codes.{node_wide, output_wide, length_nodes}
 use Rattle.reading.specs.Areas.{Leaves}
-use Rattle.schedule.specs.declared.Ordered.{Ordered}
-use Rattle.schedule.specs.declared.Ordered.TheVariants.{Cells}
 use Rattle.schedule.specs.Call.{ordered_cells, graph_in, leaves, answer_of, schedule_fault, schedule_call}
-use Rattle.listing.specs.Lines.{Line, Room}
+use Rattle.listing.specs.Lines.{Room}
 use Rattle.printing.specs.Inside.{Inside, ReadInside, Listable}
-
--- a line is inside its area
-pub line_inside : (area bytes : List ℕ) (size : ℕ) → Line area size bytes → size ≤ length area
-line_inside area bytes size l = omega (arith, simp length-take at (ap length l.front), l.count)
 
 -- ---- as many cells as nodes at the most
 
@@ -51,10 +44,10 @@ cells_most nodes n =
     omega (arith, numbers_most (is_cell (graph_in nodes n)) 0 (length (graph_in nodes n)), length-map vertex_of (nodes_of nodes n), length_nodes nodes n)
 
 answer_most : (fault : Checked) (cells : ℕ) → ordered_cells (answer_of fault cells) ≤ cells
-answer_most Sound cells = omega arith
-answer_most (Faulty e) cells = omega arith
+answer_most (Ok u) cells = omega arith
+answer_most (Err e) cells = omega arith
 
-ordered_most : (r : Ordered) (nodes outputs keys a b c x y z : List ℕ) (w : ℕ) → leaves r a b c ≡ schedule_call nodes outputs w keys x y z → ordered_cells r ≤ length nodes / 9
+ordered_most : (r : Try ℕ) (nodes outputs keys a b c x y z : List ℕ) (w : ℕ) → leaves r a b c ≡ schedule_call nodes outputs w keys x y z → ordered_cells r ≤ length nodes / 9
 unfolding schedule_call
 ordered_most r nodes outputs keys a b c x y z w e =
     omega (
@@ -64,7 +57,7 @@ ordered_most r nodes outputs keys a b c x y z w e =
       cells_most nodes (length nodes / 9),
     )
 
-pub cells_within : (r : Ordered) (nodes outputs keys a b c x y z : List ℕ) (w n : ℕ) → leaves r a b c ≡ schedule_call nodes outputs w keys x y z → r ≡ Cells n → n ≤ length nodes / 9
+pub cells_within : (r : Try ℕ) (nodes outputs keys a b c x y z : List ℕ) (w n : ℕ) → leaves r a b c ≡ schedule_call nodes outputs w keys x y z → r ≡ Ok n → n ≤ length nodes / 9
 cells_within r nodes outputs keys a b c x y z w n e q = omega (arith, ordered_most r nodes outputs keys a b c x y z w e, ap ordered_cells q)
 
 -- ---- the records of a circuit that was read are inside their areas
@@ -73,23 +66,23 @@ filled_inside : (l area : List ℕ) (size : ℕ) → area ≡ filled l size → 
 filled_inside l area size e s =
     omega (arith, ap length e, length-append l (replicate (size - length l) 0), length-replicate {A = ℕ} (size - length l) 0)
 
-pub inside : (c : Try Circuit) (r : Read) (nodes outputs : List ℕ) (w o : ℕ) → r ≡ read_answer c
+pub inside : (c : Try Circuit) (r : Try Sizes) (nodes outputs : List ℕ) (w o : ℕ) → r ≡ read_answer c
     → nodes ≡ filled (node_words c) w → length nodes ≡ w → outputs ≡ filled (output_words c) o → length outputs ≡ o → ReadInside r nodes outputs
-inside c r nodes outputs w o p a s b t = subst (λ (x : Read). ReadInside x nodes outputs) (sym p) (go c a b)
+inside c r nodes outputs w o p a s b t = subst (λ (x : Try Sizes). ReadInside x nodes outputs) (sym p) (go c a b)
   where
     go : (c : Try Circuit) → nodes ≡ filled (node_words c) w → outputs ≡ filled (output_words c) o → ReadInside (read_answer c) nodes outputs
-    go (no e) a b = tt
-    go (yes q) a b =
+    go (Err e) a b = tt
+    go (Ok q) a b =
         record {
           words_of_nodes = omega (arith, filled_inside (encodes encode_node q.nodes) nodes w a s, length-encodes encode_node 9 node_wide q.nodes);
           words_of_outputs = omega (arith, filled_inside (encodes encode_output q.outputs) outputs o b t, length-encodes encode_output 5 output_wide q.outputs);
         }
 
-pub read_inside : (r : Read) (text nodes outputs : List ℕ) (n m : ℕ) → Listable text nodes outputs r → r ≡ Accepted n m → Inside n m nodes outputs
-read_inside r text nodes outputs n m l e = subst (λ (x : Read). ReadInside x nodes outputs) e l.inside
+pub read_inside : (r : Try Sizes) (text nodes outputs : List ℕ) (z : Sizes) → Listable text nodes outputs r → r ≡ Ok z → Inside z.nodes z.outputs nodes outputs
+read_inside r text nodes outputs z l e = subst (λ (x : Try Sizes). ReadInside x nodes outputs) e l.inside
 
 -- of a text whose lines were joined
-pub joined_inside : (text : List ℕ) (c : Try Circuit) (j w k o : ℕ) (r : Read) (joined nodes names outputs : List ℕ) → Leaves text c j w k o r joined nodes names outputs
+pub joined_inside : (text : List ℕ) (c : Try Circuit) (j w k o : ℕ) (r : Try Sizes) (joined nodes names outputs : List ℕ) → Leaves text c j w k o r joined nodes names outputs
     → length joined ≡ 32769 → length nodes ≡ w → w ≡ 9216 → length outputs ≡ o → Listable joined nodes outputs r
 joined_inside text c j w k o r joined nodes names outputs l f s g t =
     record { text_size = omega arith; node_size = omega arith; inside = inside c r nodes outputs w o l.answer l.nodes_is s l.outputs_is t }
@@ -102,9 +95,6 @@ front_size n l h = sym (length-take-le n l h)
 pub front_within : {A : Type 0} (n : ℕ) (l : List A) (most : ℕ) → length l ≤ most → length (take n l) ≤ most
 front_within n l most h = rw (length-take n l) (omega arith)
 
-pub line_size : (area bytes : List ℕ) (size : ℕ) → Line area size bytes → size ≡ length (take size area)
-line_size area bytes size l = front_size size area (line_inside area bytes size l)
-
 -- room for every line of a circuit of at most 1,024 nodes
-pub circuit-room : (text order line : List ℕ) (n : ℕ) → length text ≤ 32769 → n ≤ 1024 → n ≤ length order → 33024 ≡ length line → Room text (take n order) line
-circuit-room text order line n h k m e = record { of_node = omega arith; of_order = omega (arith, length-take-le n order m) }
+pub circuit-room : (text order : List ℕ) (n : ℕ) → length text ≤ 32769 → n ≤ 1024 → n ≤ length order → Room (length text) (length (take n order)) 33024
+circuit-room text order n h k m = record { of_node = omega arith; of_order = omega (arith, length-take-le n order m) }

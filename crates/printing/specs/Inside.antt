@@ -1,19 +1,19 @@
 -- The records of a circuit that was read are inside the areas.
 -- Assumes nothing.
-use Rattle.std.specs.Prelude.{ℕ, ◌*◌, ◌≤◌, List, length}
-use Rattle.circuit.specs.declared.refusals.Read.{Read}
-use Rattle.circuit.specs.declared.refusals.Read.TheVariants.{Circuit, Refused}
+use Rattle.std.specs.Prelude.{ℕ, ◌*◌, ◌≤◌, List, length, Ok, Err}
+use Rattle.circuit.specs.declared.records.Sizes.{Sizes}
+use Rattle.circuit.specs.Refusals.{Try}
 
 pub record Inside (n m : ℕ) (nodes outputs : List ℕ) : Type 0 where
   pub words_of_nodes : n * 9 ≤ length nodes
   pub words_of_outputs : m * 5 ≤ length outputs
 
-abbrev pub ReadInside : Read → List ℕ → List ℕ → Type 0
-ReadInside (Circuit n m) nodes outputs = Inside n m nodes outputs
-ReadInside (Refused e) nodes outputs = Unit
+abbrev pub ReadInside : Try Sizes → List ℕ → List ℕ → Type 0
+ReadInside (Ok s) nodes outputs = Inside s.nodes s.outputs nodes outputs
+ReadInside (Err e) nodes outputs = Unit
 
 -- what the areas of a list program hold, with a text of the names
-pub record Listable (text nodes outputs : List ℕ) (r : Read) : Type 0 where
+pub record Listable (text nodes outputs : List ℕ) (r : Try Sizes) : Type 0 where
   pub text_size : length text ≤ 32769
   pub node_size : length nodes ≤ 9216
   pub inside : ReadInside r nodes outputs

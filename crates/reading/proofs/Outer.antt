@@ -1,5 +1,6 @@
 -- Laws of the outer functions: the areas made ready, and what a reading ends in.
 -- Assumes nothing.
+use Rattle.std.specs.Prelude.{Err, Ok}
 use Prim.Native.Nat.{ℕ, ◌-◌, ◌*◌, ◌<◌}
 use mathlib.Core.Path.{◌≡◌, sym, ap, ap₂, ◌∙◌}
 use mathlib.Core.Bool.{not}
@@ -14,11 +15,8 @@ use Rattle.laws.specs.Areas.{encodes}
 use Rattle.laws.proofs.Areas.{length-encodes, length_up}
 use Rattle.circuit.specs.declared.refusals.Refusal.{Refusal}
 use Rattle.circuit.specs.declared.refusals.Refusal.TheVariants.{TextTooLong, NotAscii, NoRoom}
-use Rattle.circuit.specs.declared.refusals.Checked.{Checked}
-use Rattle.circuit.specs.declared.refusals.Checked.TheVariants.{Sound, Refused}
-use Rattle.circuit.specs.declared.refusals.Read.{Read}
-use Rattle.circuit.specs.declared.refusals.Read.TheVariants.{Circuit as Accepted}
-use Rattle.circuit.specs.Refusals.{refuse_if, Try, no, yes}
+use Rattle.circuit.specs.declared.records.Sizes.{Sizes}
+use Rattle.circuit.specs.Refusals.{refuse_if, Try}
 use Rattle.circuit.specs.Records.{encode_node, nodes_of, encode_output, outputs_of, output_at}
 use Rattle.circuit.specs.Circuits.{Circuit, read_answer}
 use Rattle.circuit.proofs.Codes.{node_wide, output_wide, length_nodes}
@@ -26,19 +24,18 @@ use Rattle.circuit.proofs.Checks.{no_fault, not_refused}
 use Rattle.text.specs.Bytes.{is_ascii}
 use Rattle.text.specs.Joining.{joined_text, Joins}
 use Rattle.names.proofs.Orders.{empty_table}
-use Rattle.reading.specs.declared.outputs.Ended.{Ended}
 use Rattle.reading.specs.Reading.{Places, places_in, bytes_fault, text_fault}
-use Rattle.reading.specs.Holding.{outcome, Kept, WordsKept, Ends}
+use Rattle.reading.specs.Holding.{Kept, WordsKept, circuit_of, Ends}
 use Rattle.reading.specs.Areas.{read_text, Leaves, Zeroed, JoinedIn}
 
 -- ---- the areas made ready
 
-pub sound-fits : (text : List ℕ) (j : ℕ) → text_fault text j ≡ Sound → length text < j
+pub sound-fits : (text : List ℕ) (j : ℕ) → text_fault text j ≡ Ok tt → length text < j
 unfolding text_fault
 sound-fits text j e = leb-false j (length text) (not_refused (leb j (length text)) NoRoom (no_fault (bytes_fault text) (refuse_if (leb j (length text)) NoRoom) e).1)
 
 -- the joined text is short enough for a table of names
-pub joined_short : (text : List ℕ) (j size r : ℕ) (joined : List ℕ) → text_fault text j ≡ Sound → Joins text size r joined → r < 2097152
+pub joined_short : (text : List ℕ) (j size r : ℕ) (joined : List ℕ) → text_fault text j ≡ Ok tt → Joins text size r joined → r < 2097152
 unfolding text_fault bytes_fault
 joined_short text j size r joined e k =
     let l = ltb-false 1048576 (length text) (not_refused (ltb 1048576 (length text)) TextTooLong (no_fault (refuse_if (ltb 1048576 (length text)) TextTooLong) (refuse_if (not (is_ascii text)) NotAscii) (no_fault (bytes_fault text) (refuse_if (leb j (length text)) NoRoom) e).0).0) in
@@ -68,17 +65,17 @@ start-words t os n e = record { room = omega arith; clean = e ∙ zeros_less n �
 -- ---- what a text gives
 
 module _ (lines : List ℕ → Places → Try Circuit) (text : List ℕ) (j n m o : ℕ) where
-  pub read_refused : (e : Refusal) → text_fault text j ≡ Refused e → read_text lines text j n m o ≡ no e
+  pub read_refused : (e : Refusal) → text_fault text j ≡ Err e → read_text lines text j n m o ≡ Err e
   unfolding read_text
   read_refused e q = rw q
 
-  pub read_sound : text_fault text j ≡ Sound → read_text lines text j n m o ≡ lines (joined_text text) (places_in n m o)
+  pub read_sound : text_fault text j ≡ Ok tt → read_text lines text j n m o ≡ lines (joined_text text) (places_in n m o)
   unfolding read_text
   read_sound q = rw q
 
 -- ---- the end
 
-pub leaves_refused : (text : List ℕ) (c : Try Circuit) (e : Refusal) (j n m o : ℕ) (r : Read) (J N M O : List ℕ) → c ≡ no e → Zeroed e j n m o r J N M O → Leaves text c j n m o r J N M O
+pub leaves_refused : (text : List ℕ) (c : Try Circuit) (e : Refusal) (j n m o : ℕ) (r : Try Sizes) (J N M O : List ℕ) → c ≡ Err e → Zeroed e j n m o r J N M O → Leaves text c j n m o r J N M O
 leaves_refused text c e j n m o r J N M O q z = record {
   answer = z.answer ∙ ap read_answer (sym q);
   joined_is = rw q (z.joined_is ∙ zeros_less j);
@@ -87,22 +84,21 @@ leaves_refused text c e j n m o r J N M O q z = record {
   outputs_is = rw q (z.outputs_is ∙ zeros_less o);
 }
 
-module _ (text : List ℕ) (used : ℕ) (c : Try Circuit) (ended : Ended) (J N O : List ℕ) (m : ℕ) (joins : JoinedIn text used J) (ends : Ends c ended N O) where
-  pub concluded_refused : (e : Refusal) → ended.fault ≡ Refused e → (r : Read) (J' N' M' O' : List ℕ) → Zeroed e (length J) (length N) m (length O) r J' N' M' O'
+module _ (text : List ℕ) (used : ℕ) (c : Try Circuit) (J N O : List ℕ) (m : ℕ) (joins : JoinedIn text used J) where
+  pub concluded_refused : (e : Refusal) → Ends c (Err e) N O → (r : Try Sizes) (J' N' M' O' : List ℕ) → Zeroed e (length J) (length N) m (length O) r J' N' M' O'
       → Leaves text c (length J) (length N) m (length O) r J' N' M' O'
-  concluded_refused e q r J' N' M' O' z = leaves_refused text c e (length J) (length N) m (length O) r J' N' M' O' (sym ends.is ∙ ap (λ (f : Checked). outcome f (record { nodes = nodes_of N ended.nodes; outputs = outputs_of O ended.outputs })) q) z
+  concluded_refused e ends r J' N' M' O' z = leaves_refused text c e (length J) (length N) m (length O) r J' N' M' O' (sym ends.is) z
 
-  pub concluded_sound : ended.fault ≡ Sound → (M' : List ℕ) → M' ≡ replicate m 0
-      → Leaves text c (length J) (length N) m (length O) (Accepted ended.nodes ended.outputs) J N M' O
-  concluded_sound q M' z =
-      let x : Circuit = record { nodes = nodes_of N ended.nodes; outputs = outputs_of O ended.outputs } in
-      let is : c ≡ yes x = sym ends.is ∙ ap (λ (f : Checked). outcome f x) q in
-      let ln : length (nodes_of N ended.nodes) ≡ ended.nodes = length_nodes N ended.nodes in
-      let lo : length (outputs_of O ended.outputs) ≡ ended.outputs = length_up (output_at O) 0 ended.outputs in
+  pub concluded_sound : (s : Sizes) → Ends c (Ok s) N O → (M' : List ℕ) → M' ≡ replicate m 0 → Leaves text c (length J) (length N) m (length O) (Ok s) J N M' O
+  concluded_sound s ends M' z =
+      let x : Circuit = circuit_of N O s in
+      let is : c ≡ Ok x = sym ends.is in
+      let ln : length (nodes_of N s.nodes) ≡ s.nodes = length_nodes N s.nodes in
+      let lo : length (outputs_of O s.outputs) ≡ s.outputs = length_up (output_at O) 0 s.outputs in
       record {
-        answer = rw is (ap₂ Accepted (sym ln) (sym lo));
+        answer = rw is (ap₂ (λ (n o : ℕ). Ok (record { nodes = n; outputs = o })) (sym ln) (sym lo));
         joined_is = rw is joins.area;
-        nodes_is = rw is ((ends.nodes_kept q).clean ∙ ap (λ (k : ℕ). encodes encode_node x.nodes ++ replicate (length N - k) 0) (sym (length-encodes encode_node 9 node_wide x.nodes ∙ ap (λ (k : ℕ). k * 9) ln)));
+        nodes_is = rw is (ends.nodes_kept.clean ∙ ap (λ (k : ℕ). encodes encode_node x.nodes ++ replicate (length N - k) 0) (sym (length-encodes encode_node 9 node_wide x.nodes ∙ ap (λ (k : ℕ). k * 9) ln)));
         names_is = z;
-        outputs_is = rw is ((ends.outputs_kept q).clean ∙ ap (λ (k : ℕ). encodes encode_output x.outputs ++ replicate (length O - k) 0) (sym (length-encodes encode_output 5 output_wide x.outputs ∙ ap (λ (k : ℕ). k * 5) lo)));
+        outputs_is = rw is (ends.outputs_kept.clean ∙ ap (λ (k : ℕ). encodes encode_output x.outputs ++ replicate (length O - k) 0) (sym (length-encodes encode_output 5 output_wide x.outputs ∙ ap (λ (k : ℕ). k * 5) lo)));
       }

@@ -1,5 +1,8 @@
 -- Laws of the outputs' wires.
 -- Assumes nothing.
+use Rattle.std.specs.Prelude.{Err, None, Ok, Option, Some}
+use Rattle.std.specs.Option.{ok_or}
+use Rattle.std.proofs.lemmas.List.{length-map}
 use Prim.Native.Nat.{ℕ, zero, suc, ◌+◌, ◌-◌, ◌*◌, ◌≤◌, ◌<◌}
 use mathlib.Core.Path.{◌≡◌, refl, sym, ap, ap₂, ◌∙◌}
 use mathlib.Core.Bool.{Bool}
@@ -15,15 +18,13 @@ use Rattle.laws.proofs.Areas.{length_up, set_record}
 use Rattle.laws.proofs.Storing.{list_of, up_at}
 use Rattle.circuit.specs.declared.refusals.Refusal.{Refusal}
 use Rattle.circuit.specs.declared.refusals.Refusal.TheVariants.{NoDriver, NoOutputs}
-use Rattle.circuit.specs.declared.refusals.Checked.TheVariants.{Sound, Refused}
 use Rattle.circuit.specs.declared.records.BoolNode.{BoolNode}
 use Rattle.circuit.specs.declared.records.Output.{Output}
-use Rattle.circuit.specs.Refusals.{Try, no, yes, and_then}
+use Rattle.circuit.specs.Refusals.{Try, and_then}
 use Rattle.circuit.specs.Records.{wire_of, wire_word, encode_output, outputs_of}
 use Rattle.circuit.proofs.Codes.{outputs_of_area}
 use Rattle.text.specs.declared.words.Word.{Word}
 use Rattle.names.specs.Names.{Entry}
-use Rattle.names.specs.declared.Found.TheVariants.{At, Nothing}
 use Rattle.reading.specs.Reading.{find, Out, output_of, resolve, closed}
 use Rattle.reading.specs.Holding.{output_word, words_of, encode_word, InText, out_at, outs_of, encode_out, Resolved}
 use Rattle.reading.proofs.Steps.{length-words}
@@ -52,10 +53,6 @@ unfolding plain
 plain-encodes [] = refl
 plain-encodes (w ∷ ws) = ap (λ (l : List ℕ). encode_word w ++ l) (plain-encodes ws)
 
-map-length : {A B : Type 0} (f : A → B) (l : List A) → length (map f l) ≡ length l
-map-length f [] = refl
-map-length f (x ∷ xs) = ap suc (map-length f xs)
-
 names_of : (a : List ℕ) (n : ℕ) → words_of a n ≡ map (λ (o : Out). o.word) (outs_of a n)
 names_of a n = sym (map_up (λ (o : Out). o.word) (out_at a) 0 n)
 
@@ -79,7 +76,7 @@ encode_outputs (o ∷ os) = ap₂ (λ (x y : List ℕ). x ++ y) (sym (encode-out
 outputs_are : (a : List ℕ) (n : ℕ) → a ≡ encodes encode_out (outs_of a n) ++ replicate (length a - n * 5) 0 → outputs_of a n ≡ map output_of (outs_of a n)
 outputs_are a n cl =
     let os : List Output = map output_of (outs_of a n) in
-    let k : length os ≡ n = map-length output_of (outs_of a n) ∙ list_length a n in
+    let k : length os ≡ n = length-map (outs_of a n) output_of ∙ list_length a n in
     let e : a ≡ encodes encode_output os ++ replicate (length a - n * 5) 0 = cl ∙ ap (λ (l : List ℕ). l ++ replicate (length a - n * 5) 0) (encode_outputs (outs_of a n)) in
     ap (λ (m : ℕ). outputs_of a m) (sym k) ∙ outputs_of_area a os _ e
 
@@ -87,13 +84,14 @@ clean_outputs : (a : List ℕ) (n : ℕ) → a ≡ encodes encode_out (outs_of a
 clean_outputs a n cl =
     cl ∙ ap (λ (l : List ℕ). l ++ replicate (length a - n * 5) 0) (encode_outputs (outs_of a n) ∙ ap (encodes encode_output) (sym (outputs_are a n cl)))
 
-refused_sound : {e : Refusal} → Refused e ≡ Sound → ⊥
-refused_sound q = let z : ◌≡◌ {A = ℕ} 0 1 = cc in omega arith
+-- the refusal where no wire is found
+pub undriven : {f : Option ℕ} {e : Refusal} → f ≡ None → Err e ≡ ok_or f NoDriver → e ≡ NoDriver
+undriven {e = e} n q = let z : ◌≡◌ {A = Try ℕ} (Err e) (Err NoDriver) = rw n at q in cc
 
 -- ---- as the loop goes
 
 abbrev prefixed : List Out → Try (List Out) → Try (List Out)
-prefixed p r = and_then r (λ os. yes (p ++ os))
+prefixed p r = and_then r (λ os. Ok (p ++ os))
 
 pub record Mid (b : Bool) (t : List ℕ) (es : List Entry) (a₀ a : List ℕ) (n j : ℕ) : Type 0 where
   pub clean : a ≡ encodes encode_out (outs_of a n) ++ replicate (length a - n * 5) 0
@@ -101,37 +99,34 @@ pub record Mid (b : Bool) (t : List ℕ) (es : List Entry) (a₀ a : List ℕ) (
   pub rest : prefixed (take j (outs_of a n)) (resolve b t es (drop j (words_of a₀ n))) ≡ resolve b t es (words_of a₀ n)
 
 nothing-first : (o : Try (List Out)) → prefixed [] o ≡ o
-nothing-first (no e) = refl
-nothing-first (yes x) = refl
+nothing-first (Err e) = refl
+nothing-first (Ok x) = refl
 
 pub clean_outs : (a : List ℕ) (n : ℕ) → a ≡ encodes encode_word (words_of a n) ++ replicate (length a - n * 5) 0 → a ≡ encodes encode_out (outs_of a n) ++ replicate (length a - n * 5) 0
 clean_outs a n h =
     let ws : List Word = words_of a n in
     let e : a ≡ encodes encode_out (map plain ws) ++ replicate (length a - n * 5) 0 = h ∙ ap (λ (l : List ℕ). l ++ replicate (length a - n * 5) 0) (plain-encodes ws) in
-    let k : length (map plain ws) ≡ n = map-length plain ws ∙ length-words a n in
+    let k : length (map plain ws) ≡ n = length-map ws plain ∙ length-words a n in
     let o : outs_of a n ≡ map plain ws = ap (λ (m : ℕ). outs_of a m) (sym k) ∙ outs-of a (map plain ws) _ e in
     e ∙ ap (λ (l : List Out). encodes encode_out l ++ replicate (length a - n * 5) 0) (sym o)
 
-none_first : (b : Bool) (t : List ℕ) (es : List Entry) (w : Word) (ws : List Word) (p : List Out) → find b t w es ≡ Nothing
-    → no NoDriver ≡ prefixed p (resolve b t es (w ∷ ws))
+none_first : (b : Bool) (t : List ℕ) (es : List Entry) (w : Word) (ws : List Word) (p : List Out) → find b t w es ≡ None
+    → Err NoDriver ≡ prefixed p (resolve b t es (w ∷ ws))
 unfolding resolve
 none_first b t es w ws p q = rw q
 
-found_first : (b : Bool) (t : List ℕ) (es : List Entry) (w : Word) (ws : List Word) (p : List Out) (x : ℕ) → find b t w es ≡ At x
+found_first : (b : Bool) (t : List ℕ) (es : List Entry) (w : Word) (ws : List Word) (p : List Out) (x : ℕ) → find b t w es ≡ Some x
     → prefixed (p ++ (record { word = w; wire = x } ∷ [])) (resolve b t es ws) ≡ prefixed p (resolve b t es (w ∷ ws))
 unfolding resolve
 found_first b t es w ws p x q = rw q (go (resolve b t es ws))
   where
-    go : (r : Try (List Out)) → prefixed (p ++ (record { word = w; wire = x } ∷ [])) r ≡ prefixed p (and_then r (λ os. yes (record { word = w; wire = x } ∷ os)))
-    go (no e) = refl
-    go (yes os) = ap (λ (l : List Out). yes l) (append_assoc p (record { word = w; wire = x } ∷ []) os)
+    go : (r : Try (List Out)) → prefixed (p ++ (record { word = w; wire = x } ∷ [])) r ≡ prefixed p (and_then r (λ os. Ok (record { word = w; wire = x } ∷ os)))
+    go (Err e) = refl
+    go (Ok os) = ap (λ (l : List Out). Ok l) (append_assoc p (record { word = w; wire = x } ∷ []) os)
 
-end_first : (b : Bool) (t : List ℕ) (es : List Entry) (p : List Out) → prefixed p (resolve b t es []) ≡ yes (p ++ [])
+end_first : (b : Bool) (t : List ℕ) (es : List Entry) (p : List Out) → prefixed p (resolve b t es []) ≡ Ok (p ++ [])
 unfolding resolve
 end_first b t es p = refl
-
-drop_all : (l : List Word) → drop (length l) l ≡ []
-drop_all l = drop-length l
 
 module _ (b : Bool) (t : List ℕ) (es : List Entry) (a₀ : List ℕ) (n : ℕ) where
   pub mid_start : a₀ ≡ encodes encode_word (words_of a₀ n) ++ replicate (length a₀ - n * 5) 0 → Mid b t es a₀ a₀ n 0
@@ -158,13 +153,13 @@ module _ (b : Bool) (t : List ℕ) (es : List Entry) (a₀ : List ℕ) (n : ℕ)
         let l : j < length (words_of a₀ n) = omega (arith, length-words a₀ n) in
         rw (add-one j) (drop-cons (words_of a₀ n) j (record { start = 0; len = 0 }) l ∙ ap (λ (w : Word). w ∷ drop (suc j) (words_of a₀ n)) word_at)
 
-    pub mid_none : find b t (output_word a j) es ≡ Nothing → no NoDriver ≡ resolve b t es (words_of a₀ n)
+    pub mid_none : find b t (output_word a j) es ≡ None → Err NoDriver ≡ resolve b t es (words_of a₀ n)
     mid_none q = stop ∙ mid.rest
       where
-        stop : no NoDriver ≡ prefixed (take j (outs_of a n)) (resolve b t es (drop j (words_of a₀ n)))
+        stop : Err NoDriver ≡ prefixed (take j (outs_of a n)) (resolve b t es (drop j (words_of a₀ n)))
         stop = rw here (none_first b t es (output_word a j) (drop (j + 1) (words_of a₀ n)) (take j (outs_of a n)) q)
 
-    module _ (x : ℕ) (q : find b t (output_word a j) es ≡ At x) (a' : List ℕ) (put : a' ≡ stored a (j * 5) (encode_out (record { word = output_word a j; wire = x }))) (same : length a' ≡ length a) where
+    module _ (x : ℕ) (q : find b t (output_word a j) es ≡ Some x) (a' : List ℕ) (put : a' ≡ stored a (j * 5) (encode_out (record { word = output_word a j; wire = x }))) (same : length a' ≡ length a) where
       o : Out
       o = record { word = output_word a j; wire = x }
 
@@ -206,27 +201,27 @@ module _ (b : Bool) (t : List ℕ) (es : List Entry) (a₀ : List ℕ) (n : ℕ)
               ≡ prefixed (take j (outs_of a n)) (resolve b t es (drop j (words_of a₀ n)))
           step_rest = rw (front, here) (found_first b t es (output_word a j) (drop (j + 1) (words_of a₀ n)) (take j (outs_of a n)) x q)
 
-  pub mid_end : (a : List ℕ) (j : ℕ) → j ≡ n → Mid b t es a₀ a n j → resolve b t es (words_of a₀ n) ≡ yes (outs_of a n)
+  pub mid_end : (a : List ℕ) (j : ℕ) → j ≡ n → Mid b t es a₀ a n j → resolve b t es (words_of a₀ n) ≡ Ok (outs_of a n)
   mid_end a j e mid =
-      let d : drop j (words_of a₀ n) ≡ [] = ap (λ (k : ℕ). drop k (words_of a₀ n)) (e ∙ sym (length-words a₀ n)) ∙ drop_all (words_of a₀ n) in
-      sym mid.rest ∙ rw d (end_first b t es (take j (outs_of a n))) ∙ ap (λ (l : List Out). yes l) (append-nil (take j (outs_of a n)) ∙ take_all j (outs_of a n) (omega (arith, list_length a n, e)))
+      let d : drop j (words_of a₀ n) ≡ [] = ap (λ (k : ℕ). drop k (words_of a₀ n)) (e ∙ sym (length-words a₀ n)) ∙ drop-length (words_of a₀ n) in
+      sym mid.rest ∙ rw d (end_first b t es (take j (outs_of a n))) ∙ ap (λ (l : List Out). Ok l) (append-nil (take j (outs_of a n)) ∙ take_all j (outs_of a n) (omega (arith, list_length a n, e)))
 
   -- the answers of `resolve_outputs`
-  pub answer_none : (a : List ℕ) → no NoDriver ≡ resolve b t es (words_of a₀ n) → Resolved b t es (words_of a₀ n) (Refused NoDriver) a n
-  answer_none a e = record { is = λ ns. rw (← e); kept = λ z. absurd (refused_sound z) }
+  pub answer_none : (a : List ℕ) → Err NoDriver ≡ resolve b t es (words_of a₀ n) → Resolved b t es (words_of a₀ n) (Err NoDriver) a n
+  answer_none a e = record { is = λ ns. rw (← e); kept = tt }
 
-  pub answer_empty : (a : List ℕ) → n ≡ 0 → resolve b t es (words_of a₀ n) ≡ yes (outs_of a n) → Resolved b t es (words_of a₀ n) (Refused NoOutputs) a n
+  pub answer_empty : (a : List ℕ) → n ≡ 0 → resolve b t es (words_of a₀ n) ≡ Ok (outs_of a n) → Resolved b t es (words_of a₀ n) (Err NoOutputs) a n
   unfolding closed
-  answer_empty a z e = record { is = λ ns. rw e (go ns n z); kept = λ q. absurd (refused_sound q) }
+  answer_empty a z e = record { is = λ ns. rw e (go ns n z); kept = tt }
     where
-      go : (ns : List BoolNode) (m : ℕ) → m ≡ 0 → no NoOutputs ≡ closed ns (outs_of a m)
+      go : (ns : List BoolNode) (m : ℕ) → m ≡ 0 → Err NoOutputs ≡ closed ns (outs_of a m)
       go ns m q = rw q
 
-  pub answer_some : (a : List ℕ) → n * 5 ≤ length a → a ≡ encodes encode_out (outs_of a n) ++ replicate (length a - n * 5) 0 → (n ≡ 0 → ⊥) → resolve b t es (words_of a₀ n) ≡ yes (outs_of a n) → Resolved b t es (words_of a₀ n) Sound a n
+  pub answer_some : (a : List ℕ) → n * 5 ≤ length a → a ≡ encodes encode_out (outs_of a n) ++ replicate (length a - n * 5) 0 → (n ≡ 0 → ⊥) → resolve b t es (words_of a₀ n) ≡ Ok (outs_of a n) → Resolved b t es (words_of a₀ n) (Ok tt) a n
   unfolding closed
   answer_some a room cl nz e =
-      record { is = λ ns. rw e (go ns n nz (outputs_are a n cl)); kept = λ q. record { room = room; clean = clean_outputs a n cl } }
+      record { is = λ ns. rw e (go ns n nz (outputs_are a n cl)); kept = record { room = room; clean = clean_outputs a n cl } }
     where
-      go : (ns : List BoolNode) (m : ℕ) → (m ≡ 0 → ⊥) → outputs_of a m ≡ map output_of (outs_of a m) → yes (record { nodes = ns; outputs = outputs_of a m }) ≡ closed ns (outs_of a m)
+      go : (ns : List BoolNode) (m : ℕ) → (m ≡ 0 → ⊥) → outputs_of a m ≡ map output_of (outs_of a m) → Ok (record { nodes = ns; outputs = outputs_of a m }) ≡ closed ns (outs_of a m)
       go ns zero q p = absurd (q refl)
       go ns (suc m) q p = rw p

@@ -1,26 +1,24 @@
 -- What the areas hold while lines are read, and what the steps answer.
 -- Assumes nothing.
-use Rattle.std.specs.Prelude.{ℕ, ◌+◌, ◌-◌, ◌*◌, ◌≤◌, ◌≡◌, Bool, List, [], ◌∷◌, ◌++◌, length, replicate, get_or}
+use Rattle.std.specs.Prelude.{ℕ, ◌+◌, ◌-◌, ◌*◌, ◌≤◌, ◌≡◌, Bool, List, [], ◌∷◌, ◌++◌, length, replicate, get_or, None, Ok, Err, Option, Some, IfOk, OnOk}
 use Rattle.laws.specs.Areas.{encodes, up_from, stored}
 use Rattle.laws.specs.Stretches.{All}
-use Rattle.circuit.specs.declared.refusals.Checked.{Checked}
-use Rattle.circuit.specs.declared.refusals.Checked.TheVariants.{Sound}
+use Rattle.circuit.specs.Refusals.{Checked}
 use Rattle.circuit.specs.declared.records.BoolNode.{BoolNode}
-use Rattle.circuit.specs.Refusals.{Try, yes, and_then, check_then}
+use Rattle.circuit.specs.declared.records.Sizes.{Sizes}
+use Rattle.circuit.specs.Refusals.{Try, and_then}
 use Rattle.circuit.specs.Records.{encode_node, nodes_of, encode_output, outputs_of}
 use Rattle.circuit.specs.Circuits.{Circuit}
 use Rattle.text.specs.declared.words.Word.{Word}
 use Rattle.names.specs.Names.{Entry}
 use Rattle.names.specs.Chains.{entries, Table}
-use Rattle.names.specs.declared.Found.{Found}
-use Rattle.names.specs.declared.Found.TheVariants.{At, Nothing}
 use Rattle.reading.specs.declared.records.Counts.{Counts}
-use Rattle.reading.specs.declared.outputs.Ended.{Ended}
 use Rattle.reading.specs.Reading.{Held, State, Out, resolve, closed}
 
--- a fault of the code, or what it leaves
-abbrev pub outcome : {A : Type 0} → Checked → A → Try A
-outcome c a = check_then c (yes a)
+-- a refusal of the code, or what it leaves, from what it answers
+abbrev pub outcome : {A B : Type 0} → (A → B) → Try A → Try B
+outcome f (Err e) = Err e
+outcome f (Ok a) = Ok (f a)
 
 abbrev pub held_of : List ℕ → List ℕ → Counts → Held
 held_of ns ms c = record { nodes = nodes_of ns c.nodes; names = entries ms c.names }
@@ -34,6 +32,10 @@ pub record NodesKept (ns : List ℕ) (n : ℕ) : Type 0 where
 pub record Kept (t heads ns ms : List ℕ) (c : Counts) : Type 0 where
   pub table : Table t heads ms c.names
   pub nodes : NodesKept ns c.nodes
+
+-- in order for some counts, as a refusal leaves them
+abbrev pub KeptForSome : List ℕ → List ℕ → List ℕ → List ℕ → Type 0
+KeptForSome t heads ns ms = (c : Counts) × Kept t heads ns ms c
 
 -- the output words of an area: records whose wire is not known yet
 abbrev pub output_word : List ℕ → ℕ → Word
@@ -52,6 +54,10 @@ pub record WordsKept (t os : List ℕ) (n : ℕ) : Type 0 where
   pub room : n * 5 ≤ length os
   pub clean : os ≡ encodes encode_word (words_of os n) ++ replicate (length os - n * 5) 0
   pub inside : InText (length t) (words_of os n)
+
+-- in order for some count, as a refusal leaves it
+abbrev pub WordsKeptForSome : List ℕ → List ℕ → Type 0
+WordsKeptForSome t os = (n : ℕ) × WordsKept t os n
 
 -- the area of the outputs is in order: so many records with their wires, zeros after them
 pub record OutputsKept (os : List ℕ) (n : ℕ) : Type 0 where
@@ -72,17 +78,21 @@ abbrev pub encode_out : Out → List ℕ
 encode_out o = 1 ∷ o.word.start ∷ o.word.len ∷ 0 ∷ o.wire ∷ []
 
 -- record j of an area with the wire that was found
-abbrev pub put_wire : List ℕ → ℕ → Found → List ℕ
-put_wire a j (At x) = stored a (j * 5) (encode_out (record { word = output_word a j; wire = x }))
-put_wire a j Nothing = a
+abbrev pub put_wire : List ℕ → ℕ → Option ℕ → List ℕ
+put_wire a j (Some x) = stored a (j * 5) (encode_out (record { word = output_word a j; wire = x }))
+put_wire a j None = a
+
+-- so many nodes and outputs of the areas
+abbrev pub circuit_of : List ℕ → List ℕ → Sizes → Circuit
+circuit_of ns os s = record { nodes = nodes_of ns s.nodes; outputs = outputs_of os s.outputs }
 
 -- what the end of the reading leaves: the circuit of the areas, or the fault
-pub record Ends (c : Try Circuit) (e : Ended) (ns os : List ℕ) : Type 0 where
-  pub is : outcome e.fault (record { nodes = nodes_of ns e.nodes; outputs = outputs_of os e.outputs }) ≡ c
-  pub nodes_kept : e.fault ≡ Sound → NodesKept ns e.nodes
-  pub outputs_kept : e.fault ≡ Sound → OutputsKept os e.outputs
+pub record Ends (c : Try Circuit) (e : Try Sizes) (ns os : List ℕ) : Type 0 where
+  pub is : outcome (circuit_of ns os) e ≡ c
+  pub nodes_kept : IfOk e (λ s. NodesKept ns s.nodes)
+  pub outputs_kept : IfOk e (λ s. OutputsKept os s.outputs)
 
 -- the wires of the outputs are found, or the fault; whatever the nodes are
 pub record Resolved (constants : Bool) (t : List ℕ) (es : List Entry) (ws : List Word) (fault : Checked) (os : List ℕ) (n : ℕ) : Type 0 where
-  pub is : (ns : List BoolNode) → outcome fault (record { nodes = ns; outputs = outputs_of os n }) ≡ and_then (resolve constants t es ws) (closed ns)
-  pub kept : fault ≡ Sound → OutputsKept os n
+  pub is : (ns : List BoolNode) → outcome (λ u. record { nodes = ns; outputs = outputs_of os n }) fault ≡ and_then (resolve constants t es ws) (closed ns)
+  pub kept : OnOk fault (OutputsKept os n)

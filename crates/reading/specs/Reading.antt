@@ -1,23 +1,21 @@
 -- What the readers of joined texts share: text faults, the circuit and the names so far, a record more, the outputs at the end.
 -- Assumes nothing.
-use Rattle.std.specs.Prelude.{ℕ, ◌+◌, Bool, false, cond, not, ◌&&◌, List, [], ◌∷◌, ◌++◌, map, length, ltb, leb}
+use Rattle.std.specs.Prelude.{ℕ, ◌+◌, Bool, false, cond, not, ◌&&◌, List, [], ◌∷◌, ◌++◌, map, length, ltb, leb, None, Option, Some, Ok, Err}
 use Rattle.laws.specs.Areas.{capacity}
 use Rattle.laws.specs.Stretches.{same_bytes}
 use Rattle.circuit.specs.declared.refusals.Refusal.TheVariants.{TextTooLong, NotAscii, NoRoom, DefinedBefore, NoDriver, NoOutputs}
-use Rattle.circuit.specs.declared.refusals.Checked.{Checked}
+use Rattle.circuit.specs.Refusals.{Checked}
 use Rattle.circuit.specs.declared.records.BoolWire.TheVariants.{Const}
 use Rattle.circuit.specs.declared.records.Name.TheVariants.{Stretch}
 use Rattle.circuit.specs.declared.records.BoolNode.{BoolNode}
 use Rattle.circuit.specs.declared.records.Output.{Output}
-use Rattle.circuit.specs.Refusals.{refuse_if, first_fault, Try, no, yes, and_then, need}
+use Rattle.circuit.specs.Refusals.{refuse_if, first_fault, Try, and_then, need}
 use Rattle.circuit.specs.Records.{wire_of}
 use Rattle.circuit.specs.Circuits.{Circuit}
 use Rattle.text.specs.Bytes.{is_ascii}
 use Rattle.text.specs.Words.{bytes_of}
 use Rattle.text.specs.declared.words.Word.{Word}
 use Rattle.names.specs.Names.{Entry, lookup}
-use Rattle.names.specs.declared.Found.{Found}
-use Rattle.names.specs.declared.Found.TheVariants.{At, Nothing}
 
 -- ---- the text
 
@@ -57,20 +55,20 @@ start = record { held = record { nodes = []; names = [] }; outputs = [] }
 -- ---- names
 
 -- "`FALSE` and `TRUE` are defined first" where `constants` holds (BENCH); then the names of the text
-unfoldable pub find : Bool → List ℕ → Word → List Entry → Found
+unfoldable pub find : Bool → List ℕ → Word → List Entry → Option ℕ
 find constants t w es =
-    cond (constants && same_bytes (bytes_of t w) (70 ∷ 65 ∷ 76 ∷ 83 ∷ 69 ∷ [])) (At 0)
-    (cond (constants && same_bytes (bytes_of t w) (84 ∷ 82 ∷ 85 ∷ 69 ∷ [])) (At 1) (lookup t (bytes_of t w) es))
+    cond (constants && same_bytes (bytes_of t w) (70 ∷ 65 ∷ 76 ∷ 83 ∷ 69 ∷ [])) (Some 0)
+    (cond (constants && same_bytes (bytes_of t w) (84 ∷ 82 ∷ 85 ∷ 69 ∷ [])) (Some 1) (lookup t (bytes_of t w) es))
 
 -- "4: name defined before"
-abbrev pub unless_defined : {A : Type 0} → Found → Try A → Try A
-unless_defined (At w) k = no DefinedBefore
-unless_defined Nothing k = k
+abbrev pub unless_defined : {A : Type 0} → Option ℕ → Try A → Try A
+unless_defined (Some w) k = Err DefinedBefore
+unless_defined None k = k
 
 -- "5: gate input or output without a driver"
-abbrev pub driver : Found → Try ℕ
-driver (At w) = yes w
-driver Nothing = no NoDriver
+abbrev pub driver : Option ℕ → Try ℕ
+driver (Some w) = Ok w
+driver None = Err NoDriver
 
 -- ---- a record more
 
@@ -80,15 +78,15 @@ if_room xs room k = need (ltb (length xs) room) NoRoom k
 
 -- "Each defined name takes one name record": a name for the word of a wire
 unfoldable pub add_name : ℕ → Word → ℕ → List Entry → Try (List Entry)
-add_name room w wire es = if_room es room (yes (record { start = w.start; len = w.len; wire = wire } ∷ es))
+add_name room w wire es = if_room es room (Ok (record { start = w.start; len = w.len; wire = wire } ∷ es))
 
 abbrev pub with_names : List BoolNode → Try (List Entry) → Try Held
-with_names ns (no e) = no e
-with_names ns (yes es) = yes (record { nodes = ns; names = es })
+with_names ns (Err e) = Err e
+with_names ns (Ok es) = Ok (record { nodes = ns; names = es })
 
 -- a node more: the next place in the circuit
 unfoldable pub add_node : ℕ → BoolNode → List BoolNode → Try (List BoolNode)
-add_node room n ns = if_room ns room (yes (ns ++ (n ∷ [])))
+add_node room n ns = if_room ns room (Ok (ns ++ (n ∷ [])))
 
 -- a name for a wire that is there: an alias or a constant
 unfoldable pub add_alias : Places → Word → ℕ → Held → Try Held
@@ -108,11 +106,11 @@ add_input constants t p w h = unless_defined (find constants t w h.names) (add_n
 
 -- "In BLIF and BENCH an output's place is taken when its word is read"
 unfoldable pub add_output : ℕ → Word → List Word → Try (List Word)
-add_output room w ws = if_room ws room (yes (ws ++ (w ∷ [])))
+add_output room w ws = if_room ws room (Ok (ws ++ (w ∷ [])))
 
 -- one word after the other
 unfoldable pub each : {A B : Type 0} → (B → A → Try A) → List B → A → Try A
-each f [] a = yes a
+each f [] a = Ok a
 each f (w ∷ ws) a = and_then (f w a) (each f ws)
 
 -- ---- the end
@@ -126,14 +124,14 @@ abbrev pub output_of : Out → Output
 output_of o = record { name = Stretch o.word.start o.word.len; wire = wire_of o.wire }
 
 unfoldable pub resolve : Bool → List ℕ → List Entry → List Word → Try (List Out)
-resolve constants t es [] = yes []
+resolve constants t es [] = Ok []
 resolve constants t es (w ∷ ws) =
-    and_then (driver (find constants t w es)) (λ x. and_then (resolve constants t es ws) (λ os. yes (record { word = w; wire = x } ∷ os)))
+    and_then (driver (find constants t w es)) (λ x. and_then (resolve constants t es ws) (λ os. Ok (record { word = w; wire = x } ∷ os)))
 
 -- "At the end outputs: 5, then 10."
 unfoldable pub closed : List BoolNode → List Out → Try Circuit
-closed ns [] = no NoOutputs
-closed ns (o ∷ os) = yes (record { nodes = ns; outputs = map output_of (o ∷ os) })
+closed ns [] = Err NoOutputs
+closed ns (o ∷ os) = Ok (record { nodes = ns; outputs = map output_of (o ∷ os) })
 
 unfoldable pub finish : Bool → List ℕ → State → Try Circuit
 finish constants t s = and_then (resolve constants t s.held.names s.outputs) (closed s.held.nodes)

@@ -3,46 +3,33 @@ ghost use Rattle.std.specs.Prelude.{◌≡◌, length};
 ghost use Rattle.reading.specs.Reading.{bytes_fault, text_fault};
 ghost use Rattle.reading.specs.Areas.{Zeroed, PreparedIs, Concludes};
 
-use crate::outputs::Ended;
-use circuit::areas::{clear, clear_bytes};
-use circuit::refusals::{Checked, Read, Refusal};
+use circuit::records::Sizes;
+use circuit::refusals::Refusal;
 use text::bytes::is_ascii;
 use text::joining::logical_lines;
 
-// A text that is refused, or how long its joined text is.
-#[derive(Clone, Copy)]
-pub enum Prepared {
-    Refused(Refusal),
-    Joined(usize),
-}
-
 // 1, 2.
-pub fn bytes_fault(text: &[u8]) -> Checked
+pub fn bytes_fault(text: &[u8]) -> Result<(), Refusal>
     ensures { result ≡ bytes_fault text.now }
 {
     if 1048576 < text.len() {
-        return Checked::Refused(Refusal::TextTooLong);
+        return Err(Refusal::TextTooLong);
     }
-    if is_ascii(text) {
-        return Checked::Sound;
+    if !is_ascii(text) {
+        return Err(Refusal::NotAscii);
     }
-    Checked::Refused(Refusal::NotAscii)
+    Ok(())
 }
 
 // 1, 2, 3 for a joined area of so many bytes.
-pub fn text_fault(text: &[u8], joined: usize) -> Checked
+pub fn text_fault(text: &[u8], joined: usize) -> Result<(), Refusal>
     ensures { result ≡ text_fault text.now joined }
 {
-    let fault = bytes_fault(text);
-    match fault {
-        Checked::Refused(e) => Checked::Refused(e),
-        Checked::Sound => {
-            if joined <= text.len() {
-                return Checked::Refused(Refusal::NoRoom);
-            }
-            Checked::Sound
-        }
+    bytes_fault(text)?;
+    if joined <= text.len() {
+        return Err(Refusal::NoRoom);
     }
+    Ok(())
 }
 
 // Zeros everywhere.
@@ -52,56 +39,46 @@ pub fn refuse(
     nodes: &mut [usize],
     names: &mut [usize],
     outputs: &mut [usize],
-) -> Read
+) -> Result<Sizes, Refusal>
     ensures { Zeroed e (length joined.old) (length nodes.old) (length names.old) (length outputs.old) result joined.new nodes.new names.new outputs.new }
 {
-    clear_bytes(joined);
-    clear(nodes);
-    clear(names);
-    clear(outputs);
-    Read::Refused(e)
+    joined.fill(0);
+    nodes.fill(0);
+    names.fill(0);
+    outputs.fill(0);
+    Err(e)
 }
 
-// 1, 2, 3; else the joined text goes into its area, and the areas of nodes and outputs are zeros.
+// 1, 2, 3; else how long the joined text in its area is, and the areas of nodes and outputs are zeros.
 pub fn prepare(
     text: &[u8],
     joined: &mut [u8],
     nodes: &mut [usize],
     outputs: &mut [usize],
-) -> Prepared
+) -> Result<usize, Refusal>
     ensures { PreparedIs text.now (length joined.old) (length nodes.old) (length outputs.old) joined.new nodes.new outputs.new result }
 {
-    let fault = text_fault(text, joined.len());
-    match fault {
-        Checked::Refused(e) => Prepared::Refused(e),
-        Checked::Sound => {
-            clear(nodes);
-            clear(outputs);
-            let used = logical_lines(text, joined);
-            Prepared::Joined(used)
-        }
-    }
+    text_fault(text, joined.len())?;
+    nodes.fill(0);
+    outputs.fill(0);
+    Ok(logical_lines(text, joined))
 }
 
 // What the reading of the joined text ends in: the circuit with the name area cleared, or zeros everywhere.
 pub fn conclude(
-    ended: Ended,
+    ended: Result<Sizes, Refusal>,
     joined: &mut [u8],
     nodes: &mut [usize],
     names: &mut [usize],
     outputs: &mut [usize],
-) -> Read
+) -> Result<Sizes, Refusal>
     ensures { Concludes ended joined.old nodes.old (length names.old) outputs.old result joined.new nodes.new names.new outputs.new }
 {
-    let fault = ended.fault;
-    match fault {
-        Checked::Refused(e) => refuse(e, joined, nodes, names, outputs),
-        Checked::Sound => {
-            clear(names);
-            Read::Circuit {
-                nodes: ended.nodes,
-                outputs: ended.outputs,
-            }
+    match ended {
+        Err(e) => refuse(e, joined, nodes, names, outputs),
+        Ok(sizes) => {
+            names.fill(0);
+            Ok(sizes)
         }
     }
 }

@@ -3,5 +3,6 @@
 #![tactic(auto)]
 
 pub mod areas;
+pub mod format;
 pub mod outputs;
 pub mod records;

@@ -1,16 +1,17 @@
 // The nodes and names of a circuit as it is read: a record more, or the refusal.
-ghost use Rattle.std.specs.Prelude.{◌≡◌, ◌+◌, ◌≤◌, ◌<◌, ◌^◌, length};
+ghost use Rattle.std.specs.Prelude.{◌≡◌, ◌+◌, ◌≤◌, ◌<◌, ◌^◌, length, IfOk, OnErr};
 ghost use Rattle.laws.specs.Areas.{capacity};
 ghost use Rattle.circuit.specs.Records.{wire_word, nodes_of};
 ghost use Rattle.names.specs.Chains.{entries, Table};
 ghost use Rattle.reading.specs.Reading.{find, places_in, add_name, add_node, add_named, input_node, add_input};
-ghost use Rattle.reading.specs.Holding.{outcome, held_of, NodesKept, Kept};
+ghost use Rattle.reading.specs.Holding.{outcome, held_of, NodesKept, Kept, KeptForSome};
 
 use circuit::areas::{put_node, records_in};
 use circuit::records::{BoolNode, BoolWire, Name};
-use circuit::refusals::{Checked, Refusal};
-use names::Found;
+use circuit::refusals::Refusal;
+use names::NameTable;
 use text::bytes::is_word;
+use text::words::Word;
 
 // How many nodes and names there are.
 #[derive(Clone, Copy)]
@@ -19,148 +20,92 @@ pub struct Counts {
     pub names: usize,
 }
 
-// A fault, or none, and the counts.
-#[derive(Clone, Copy)]
-pub struct Step {
-    pub fault: Checked,
-    pub counts: Counts,
-}
-
-// A fault, or none, and a count.
-#[derive(Clone, Copy)]
-pub struct Counted {
-    pub fault: Checked,
-    pub count: usize,
-}
-
 // The wire's word of a name; `constants` says whether FALSE and TRUE are defined.
-pub fn find_wire(
-    text: &[u8],
-    start: usize,
-    len: usize,
-    constants: bool,
-    heads: &[usize; 256],
-    names: &[usize],
-    count: usize,
-) -> Found
-    requires table { Table text.now heads.now names.now count }
-    requires len_in_bounds { start + len ≤ length text.now }
-    ensures { result ≡ find constants text.now (record { start = start; len = len }) (entries names.now count) }
+pub fn find_wire(table: &NameTable, word: Word, constants: bool) -> Option<usize>
+    requires len_in_bounds { word.start + word.len ≤ length table.now.text.now }
+    ensures { result ≡ find constants table.now.text.now word (entries table.now.names.now table.now.count) }
 {
-    if !constants {
-        return names::find(text, start, len, heads, names, count);
+    if constants && is_word(table.text, word, b"FALSE") {
+        return Some(0);
     }
-    if is_word(text, start, len, b"FALSE") {
-        return Found::At(0);
+    if constants && is_word(table.text, word, b"TRUE") {
+        return Some(1);
     }
-    if is_word(text, start, len, b"TRUE") {
-        return Found::At(1);
-    }
-    names::find(text, start, len, heads, names, count)
+    table.find(word)
 }
 
-// A name for the word of a wire.
+// A name for the word of a wire: how many names there are then.
 pub fn add_name(
     text: &[u8],
-    start: usize,
-    len: usize,
+    word: Word,
     wire: usize,
     count: usize,
     heads: &mut [usize; 256],
     names: &mut [usize],
-) -> Counted
+) -> Result<usize, Refusal>
     requires table { Table text.now heads.old names.old count }
-    requires len_in_bounds { start + len ≤ length text.now }
-    ensures table_2 { Table text.now heads.new names.new result.count }
-    ensures count_after { outcome result.fault (entries names.new result.count) ≡ add_name (capacity 4 (length names.old)) (record { start = start; len = len }) wire (entries names.old count) }
+    requires len_in_bounds { word.start + word.len ≤ length text.now }
+    ensures table_2 { IfOk result (λ n. Table text.now heads.new names.new n) }
+    ensures table_refused { OnErr result (Table text.now heads.new names.new count) }
+    ensures count_after { outcome (λ n. entries names.new n) result ≡ add_name (capacity 4 (length names.old)) word wire (entries names.old count) }
 {
-    let room = records_in(names.len(), 4);
-    if room <= count {
-        return Counted {
-            fault: Checked::Refused(Refusal::NoRoom),
-            count,
-        };
+    if records_in(names.len(), 4) <= count {
+        return Err(Refusal::NoRoom);
     }
-    names::define(text, start, len, wire, heads, names, count);
-    Counted {
-        fault: Checked::Sound,
-        count: count + 1,
-    }
+    names::define(text, word, wire, heads, names, count);
+    Ok(count + 1)
 }
 
-// A node more.
-pub fn add_node(node: BoolNode, count: usize, nodes: &mut [usize]) -> Counted
+// A node more: how many there are then.
+pub fn add_node(node: BoolNode, count: usize, nodes: &mut [usize]) -> Result<usize, Refusal>
     requires nodes_kept { NodesKept nodes.old count }
     requires first_bound { (wire_word node.first < 2 ^ 64) × (wire_word node.second < 2 ^ 64) }
-    ensures nodes_kept_2 { NodesKept nodes.new result.count }
-    ensures count_after { outcome result.fault (nodes_of nodes.new result.count) ≡ add_node (capacity 9 (length nodes.old)) node (nodes_of nodes.old count) }
+    ensures nodes_kept_2 { IfOk result (λ n. NodesKept nodes.new n) }
+    ensures nodes_refused { OnErr result (NodesKept nodes.new count) }
+    ensures count_after { outcome (λ n. nodes_of nodes.new n) result ≡ add_node (capacity 9 (length nodes.old)) node (nodes_of nodes.old count) }
 {
-    let room = records_in(nodes.len(), 9);
-    if room <= count {
-        return Counted {
-            fault: Checked::Refused(Refusal::NoRoom),
-            count,
-        };
+    if records_in(nodes.len(), 9) <= count {
+        return Err(Refusal::NoRoom);
     }
     put_node(nodes, count, node);
-    Counted {
-        fault: Checked::Sound,
-        count: count + 1,
-    }
+    Ok(count + 1)
 }
 
 // A node and its name.
+// The areas travel one by one, with `Kept`: in a struct over them each function up to the reader would promise that its references are still the same ones.
 pub fn add_named(
     text: &[u8],
-    start: usize,
-    len: usize,
+    word: Word,
     node: BoolNode,
     counts: Counts,
     heads: &mut [usize; 256],
     nodes: &mut [usize],
     names: &mut [usize],
-) -> Step
+) -> Result<Counts, Refusal>
     requires kept { Kept text.now heads.old nodes.old names.old counts }
-    requires len_in_bounds { start + len ≤ length text.now }
+    requires len_in_bounds { word.start + word.len ≤ length text.now }
     requires first_bound { (wire_word node.first < 2 ^ 64) × (wire_word node.second < 2 ^ 64) }
-    ensures kept_2 { Kept text.now heads.new nodes.new names.new result.counts }
-    ensures counts_after { outcome result.fault (held_of nodes.new names.new result.counts) ≡ add_named (places_in (length nodes.old) (length names.old) 0) (record { start = start; len = len }) node (held_of nodes.old names.old counts) }
+    ensures kept_2 { IfOk result (λ c. Kept text.now heads.new nodes.new names.new c) }
+    ensures kept_refused { OnErr result (KeptForSome text.now heads.new nodes.new names.new) }
+    ensures counts_after { outcome (λ c. held_of nodes.new names.new c) result ≡ add_named (places_in (length nodes.old) (length names.old) 0) word node (held_of nodes.old names.old counts) }
 {
-    let n = counts.nodes;
-    let m = counts.names;
-    let added = add_node(node, n, nodes);
-    let fault = added.fault;
-    match fault {
-        Checked::Refused(e) => Step {
-            fault: Checked::Refused(e),
-            counts: Counts {
-                nodes: added.count,
-                names: m,
-            },
-        },
-        Checked::Sound => {
-            let named = add_name(text, start, len, n + 2, m, heads, names);
-            let f = named.fault;
-            Step {
-                fault: f,
-                counts: Counts {
-                    nodes: added.count,
-                    names: named.count,
-                },
-            }
-        }
-    }
+    let n = add_node(node, counts.nodes, nodes)?;
+    let m = add_name(text, word, counts.nodes + 2, counts.names, heads, names)?;
+    Ok(Counts { nodes: n, names: m })
 }
 
 // The node of a declared input.
-pub fn input_node(start: usize, len: usize) -> BoolNode
-    ensures { result ≡ input_node (record { start = start; len = len }) }
+pub fn input_node(word: Word) -> BoolNode
+    ensures { result ≡ input_node word }
 {
     BoolNode {
         kind: 1,
         count: 0,
         table: 0,
-        name: Name::Stretch { start, len },
+        name: Name::Stretch {
+            start: word.start,
+            len: word.len,
+        },
         first: BoolWire::Const(false),
         second: BoolWire::Const(false),
     }
@@ -169,29 +114,27 @@ pub fn input_node(start: usize, len: usize) -> BoolNode
 // A declared input: 4, 3.
 pub fn add_input(
     text: &[u8],
-    start: usize,
-    len: usize,
+    word: Word,
     constants: bool,
     counts: Counts,
     heads: &mut [usize; 256],
     nodes: &mut [usize],
     names: &mut [usize],
-) -> Step
+) -> Result<Counts, Refusal>
     requires kept { Kept text.now heads.old nodes.old names.old counts }
-    requires len_in_bounds { start + len ≤ length text.now }
-    ensures kept_2 { Kept text.now heads.new nodes.new names.new result.counts }
-    ensures counts_after { outcome result.fault (held_of nodes.new names.new result.counts) ≡ add_input constants text.now (places_in (length nodes.old) (length names.old) 0) (record { start = start; len = len }) (held_of nodes.old names.old counts) }
+    requires len_in_bounds { word.start + word.len ≤ length text.now }
+    ensures kept_2 { IfOk result (λ c. Kept text.now heads.new nodes.new names.new c) }
+    ensures kept_refused { OnErr result (KeptForSome text.now heads.new nodes.new names.new) }
+    ensures counts_after { outcome (λ c. held_of nodes.new names.new c) result ≡ add_input constants text.now (places_in (length nodes.old) (length names.old) 0) word (held_of nodes.old names.old counts) }
 {
-    let m = counts.names;
-    let found = find_wire(text, start, len, constants, heads, names, m);
-    match found {
-        Found::At(_) => Step {
-            fault: Checked::Refused(Refusal::DefinedBefore),
-            counts,
-        },
-        Found::Nothing => {
-            let node = input_node(start, len);
-            add_named(text, start, len, node, counts, heads, nodes, names)
-        }
+    let table = NameTable {
+        text,
+        heads,
+        names,
+        count: counts.names,
+    };
+    match find_wire(&table, word, constants) {
+        Some(_) => Err(Refusal::DefinedBefore),
+        None => add_named(text, word, input_node(word), counts, heads, nodes, names),
     }
 }

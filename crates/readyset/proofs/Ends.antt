@@ -19,28 +19,30 @@ use Rattle.laws.proofs.Tests.{and-true, false_of}
 use Rattle.readyset.specs.Sets.{member, Levels, Last}
 use Rattle.readyset.proofs.Levels.{levels_summary, member_at, member-none, zero-none, some-not-zero}
 
--- the highest bit that is 1, as the place after it
-record Highest (x e : ℕ) : Type 0 where
-  pub some : 1 ≤ e
-  pub small : e ≤ 64
-  pub at : is_set x (e - 1) ≡ true
-  pub above : (b : ℕ) → e ≤ b → is_set x b ≡ false
+-- the highest bit that is 1
+record Highest (x t : ℕ) : Type 0 where
+  pub small : t < 64
+  pub at : is_set x t ≡ true
+  pub above : (b : ℕ) → t < b → is_set x b ≡ false
 
-highest : (x : ℕ) → x < 2 ^ 64 → x ≢ 0 → Highest x (64 - count_leading_zeros 64 x)
+highest : (x : ℕ) → x < 2 ^ 64 → x ≢ 0 → Highest x (63 - count_leading_zeros 64 x)
 unfolding is_set
 highest x f n =
     let t = leading_top 64 x (omega arith) f in
-    let e : 64 - count_leading_zeros 64 x ≡ suc t.0 = omega (arith, t.1) in
-    rw e (record { some = omega arith; small = omega (arith, t.1); at = top t.0 t.2 t.3; above = λ b h. false_of (is_set x b) (λ q. omega (arith, bit_below x (suc t.0) b t.3 q)) })
+    let e : 63 - count_leading_zeros 64 x ≡ t.0 = omega (arith, t.1) in
+    rw e (record { small = omega (arith, t.1); at = top t.0 t.2 t.3; above = λ b h. false_of (is_set x b) (λ q. omega (arith, bit_below x (suc t.0) b t.3 q)) })
   where
-    top : (j : ℕ) → 2 ^ j ≤ x → x < 2 ^ suc j → is_set x (suc j - 1) ≡ true
+    top : (j : ℕ) → 2 ^ j ≤ x → x < 2 ^ suc j → is_set x j ≡ true
     top j l h =
-        let e : suc j - 1 ≡ j = omega arith in
         let p : 2 ^ suc j ≡ 2 ^ j * 2 = pow-suc 2 j in
         let lo : x - 2 ^ j < 2 ^ j = omega arith in
         let z : 1 * 2 ^ j + (x - 2 ^ j) ≡ x = omega arith in
         let q : x / 2 ^ j ≡ 1 = ap (λ (y : ℕ). y / 2 ^ j) (sym z) ∙ high 1 j lo in
-        rw (e, q)
+        rw q
+
+-- so at least one bit in 64 is no leading zero
+pub leading_room : (x : ℕ) → x < 2 ^ 64 → x ≢ 0 → count_leading_zeros 64 x ≤ 63
+leading_room x f n = let t = leading_top 64 x (omega arith) f in omega (arith, t.1)
 
 -- the ones below a bit
 ones : (s b : ℕ) → b < s → is_set (2 ^ s - 1) b ≡ true
@@ -78,16 +80,14 @@ module _ (area : List ℕ) (k : ℕ) where
   last_start z = record { upto = omega arith; none = λ j a b. absurd (omega arith); here = λ x e. absurd (omega arith) }
 
   module _ (fits : before < 2 ^ 64) (some : before ≢ 0) where
-    last_room : (64 - count_leading_zeros 64 before) ≤ k % 64
-    last_room = let t = highest before fits some in omega (arith, t.some, set-low (64 - count_leading_zeros 64 before - 1) t.at)
-
-    pub last_here : Last (member area) k (64 * (k / 64) + (64 - count_leading_zeros 64 before))
+    pub last_here : Last (member area) k (suc (64 * (k / 64) + (63 - count_leading_zeros 64 before)))
     last_here =
         let t = highest before fits some in
+        let r : 63 - count_leading_zeros 64 before < k % 64 = set-low (63 - count_leading_zeros 64 before) t.at in
         record {
-          upto = omega (arith, last_room);
-          none = λ j a b. let r : j - 64 * (k / 64) < k % 64 = omega arith in member_at area j (k / 64) (j - 64 * (k / 64)) (omega (arith, t.some)) (omega (arith, t.some)) ∙ sym (low_bit (j - 64 * (k / 64)) r) ∙ t.above (j - 64 * (k / 64)) (omega arith);
-          here = λ x e. let q : 64 - count_leading_zeros 64 before - 1 ≡ x - 64 * (k / 64) = omega (arith, t.some) in member_at area x (k / 64) (x - 64 * (k / 64)) (omega (arith, t.some, last_room)) (omega (arith, t.some, last_room)) ∙ sym (low_bit (x - 64 * (k / 64)) (omega (arith, last_room, t.some))) ∙ ap (is_set before) (sym q) ∙ t.at;
+          upto = omega arith;
+          none = λ j a b. let l : j - 64 * (k / 64) < k % 64 = omega arith in member_at area j (k / 64) (j - 64 * (k / 64)) (omega arith) (omega arith) ∙ sym (low_bit (j - 64 * (k / 64)) l) ∙ t.above (j - 64 * (k / 64)) (omega arith);
+          here = λ x e. let q : 63 - count_leading_zeros 64 before ≡ x - 64 * (k / 64) = omega arith in member_at area x (k / 64) (x - 64 * (k / 64)) (omega arith) (omega arith) ∙ sym (low_bit (x - 64 * (k / 64)) (omega arith)) ∙ ap (is_set before) (sym q) ∙ t.at;
         }
 
   -- k's own word has none
@@ -98,10 +98,10 @@ module _ (area : List ℕ) (k : ℕ) where
     pub last_single : (n : ℕ) → k ≤ n → n < 64 → Last (member area) k 0
     last_single n a b = record { upto = omega arith; none = λ j c d. own j (omega arith) d; here = λ x e. absurd (omega arith) }
 
-    module _ (n : ℕ) (below : k ≤ n) (big : 64 ≤ n) (levels : Levels area n) (found : ℕ) (last : Last (member (drop (n / 64 + 1) area)) (k / 64) found) where
-      -- the words from the one that was found on
-      later : (j : ℕ) → j < k → found ≤ j / 64 → member area j ≡ false
-      later j h l = go (eqb (j / 64) (k / 64)) refl
+    module _ (n : ℕ) (below : k ≤ n) (big : 64 ≤ n) (levels : Levels area n) where
+      -- the words after those with a member
+      later : (end : ℕ) → Last (member (drop (n / 64 + 1) area)) (k / 64) end → (j : ℕ) → j < k → end ≤ j / 64 → member area j ≡ false
+      later end last j h l = go (eqb (j / 64) (k / 64)) refl
         where
           go : (t : Bool) → eqb (j / 64) (k / 64) ≡ t → member area j ≡ false
           go true e = own j (eqb-true (j / 64) (k / 64) e) h
@@ -109,23 +109,26 @@ module _ (area : List ℕ) (k : ℕ) where
               let u : j / 64 ≢ k / 64 = eqb-false (j / 64) (k / 64) e in
               member-none area j (zero-none area n (j / 64) (levels_summary big levels) (omega arith) (last.none (j / 64) l (omega (arith, u))))
 
-      pub last_none : found ≡ 0 → Last (member area) k 0
-      last_none z = record { upto = omega arith; none = λ j a b. later j b (omega arith); here = λ x e. absurd (omega arith) }
+      pub last_none : Last (member (drop (n / 64 + 1) area)) (k / 64) 0 → Last (member area) k 0
+      last_none last = record { upto = omega arith; none = λ j a b. later 0 last j b (omega arith); here = λ x e. absurd (omega arith) }
 
-      module _ (there : found ≢ 0) (fits : get_or area (found - 1) 0 < 2 ^ 64) where
-        word : Highest (get_or area (found - 1) 0) (64 - count_leading_zeros 64 (get_or area (found - 1) 0))
-        word = highest (get_or area (found - 1) 0) fits (some-not-zero area n (found - 1) (levels_summary big levels) (omega (arith, last.upto)) (last.here (found - 1) (omega arith)))
+      module _ (found : ℕ) (last : Last (member (drop (n / 64 + 1) area)) (k / 64) (suc found)) (fits : get_or area found 0 < 2 ^ 64) where
+        pub some_there : get_or area found 0 ≢ 0
+        some_there = some-not-zero area n found (levels_summary big levels) (omega (arith, last.upto)) (last.here found refl)
 
-        pub last_found : Last (member area) k (64 * (found - 1) + (64 - count_leading_zeros 64 (get_or area (found - 1) 0)))
+        word : Highest (get_or area found 0) (63 - count_leading_zeros 64 (get_or area found 0))
+        word = highest (get_or area found 0) fits some_there
+
+        pub last_found : Last (member area) k (suc (64 * found + (63 - count_leading_zeros 64 (get_or area found 0))))
         last_found =
             record {
               upto = omega (arith, last.upto, word.small);
-              none = λ j a b. split j a b (eqb (j / 64) (found - 1)) refl;
-              here = λ x e. let q : 64 - count_leading_zeros 64 (get_or area (found - 1) 0) - 1 ≡ x - 64 * (found - 1) = omega (arith, word.some) in member_at area x (found - 1) (x - 64 * (found - 1)) (omega (arith, word.some, word.small)) (omega (arith, word.some, word.small)) ∙ ap (is_set (get_or area (found - 1) 0)) (sym q) ∙ word.at;
+              none = λ j a b. split j a b (eqb (j / 64) found) refl;
+              here = λ x e. let q : 63 - count_leading_zeros 64 (get_or area found 0) ≡ x - 64 * found = omega arith in member_at area x found (x - 64 * found) (omega (arith, word.small)) (omega (arith, word.small)) ∙ ap (is_set (get_or area found 0)) (sym q) ∙ word.at;
             }
           where
-            split : (j : ℕ) → 64 * (found - 1) + (64 - count_leading_zeros 64 (get_or area (found - 1) 0)) ≤ j → j < k → (t : Bool) → eqb (j / 64) (found - 1) ≡ t → member area j ≡ false
+            split : (j : ℕ) → suc (64 * found + (63 - count_leading_zeros 64 (get_or area found 0))) ≤ j → j < k → (t : Bool) → eqb (j / 64) found ≡ t → member area j ≡ false
             split j a b true e =
-                let q : j / 64 ≡ found - 1 = eqb-true (j / 64) (found - 1) e in
-                member_at area j (found - 1) (j % 64) q refl ∙ word.above (j % 64) (omega arith)
-            split j a b false e = let u : j / 64 ≢ found - 1 = eqb-false (j / 64) (found - 1) e in later j b (omega (arith, u, word.some))
+                let q : j / 64 ≡ found = eqb-true (j / 64) found e in
+                member_at area j found (j % 64) q refl ∙ word.above (j % 64) (omega arith)
+            split j a b false e = let u : j / 64 ≢ found = eqb-false (j / 64) found e in later (suc found) last j b (omega (arith, u))

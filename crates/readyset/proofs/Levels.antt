@@ -2,8 +2,8 @@
 -- Assumes nothing.
 use Prim.Native.Nat.{ℕ, ◌+◌, ◌-◌, ◌*◌, ◌/◌, ◌%◌, ◌^◌, ◌≤◌, ◌<◌}
 use mathlib.Core.Path.{◌≡◌, refl, sym, ap, ap₂, ◌∙◌}
-use mathlib.Core.Logic.{◌⊎◌, inl, inr, ◌≢◌}
-use mathlib.Core.Bool.{Bool, true, false, not, false≢true, true≢false}
+use mathlib.Core.Logic.{◌≢◌}
+use mathlib.Core.Bool.{Bool, true, false, not, beq, false≢true, true≢false}
 use mathlib.Core.List.{List}
 use native.Mathlib.Omega.{arith}
 use lib.Dec.{eqb, ltb}
@@ -14,9 +14,10 @@ use borrow.Rule.Slice.PartMut.{put_mid, mid_of, same_len_mid}
 use lib.Count.{count_trailing_zeros}
 use borrow.Author.Tests.{eqb-true, eqb-false, eq-eqb, ne_eqb, ltb-true, ltb-false}
 use Rattle.laws.specs.Digits.{is_set, Turned, updated}
-use Rattle.laws.proofs.Digits.{and_none, bit-zero, bit_shift, bit_below, Lowest, lowest, on_some, off_some}
+use Rattle.laws.proofs.Digits.{bit-zero, bit_shift, bit_below, Lowest, lowest, on_some, off_some}
 use Rattle.laws.proofs.Parts.{part_rest, put_rest, put_words}
-use Rattle.readyset.specs.Sets.{member, Summary, Levels, single, level, First, Marked}
+use Rattle.std.specs.Bool.{then_some}
+use Rattle.readyset.specs.Sets.{member, Summary, Levels, single, level, First, FirstIs, Marked}
 
 module _ {area : List ℕ} {n : ℕ} (big : 64 ≤ n) where
   pub levels_summary : Levels area n → Summary area n
@@ -125,6 +126,18 @@ module _ (area : List ℕ) (n k : ℕ) where
                 member_at area j found (j % 64) q refl ∙ word.below (j % 64) (omega arith)
             split j a b c false e = before j a c (omega (arith, eqb-false (j / 64) found e, found_room))
 
+-- one past n is none
+pub first_beyond : (p : ℕ → Bool) (k n x : ℕ) → k ≤ n → n ≤ x → First p k n x → First p k n n
+first_beyond p k n x l f h = record { from = l; none = λ j a b c. h.none j a (omega arith) c; here = λ z. absurd (omega arith) }
+
+-- what is tested of it to be below n
+pub first_or : (p : ℕ → Bool) (k n x : ℕ) → k ≤ n → First p k n x → FirstIs p k n (then_some (ltb x n) x)
+first_or p k n x l h = go (ltb x n) refl
+  where
+    go : (t : Bool) → ltb x n ≡ t → FirstIs p k n (then_some t x)
+    go true e = (ltb-true x n e, h)
+    go false e = first_beyond p k n x l (ltb-false x n e) h
+
 -- ---- a word of a set that is changed
 
 -- after is area with v for word w, as far as the first m words go
@@ -188,7 +201,7 @@ module _ (up : Bool) (area : List ℕ) (n k v : ℕ) (room : n ≤ length area) 
   pub mark_single : n < 64 → Marked up area n k (set area (k / 64) v)
   mark_single h = record { levels = single h; members = members_by area (set area (k / 64) v) n k v up bits wrote; beyond = past }
 
-  mark_same : eqb v 0 ≡ eqb (get_or area (k / 64) 0) 0 → Marked up area n k (set area (k / 64) v)
+  pub mark_same : eqb v 0 ≡ eqb (get_or area (k / 64) 0) 0 → Marked up area n k (set area (k / 64) v)
   mark_same e = record { levels = go (ltb n 64) refl; members = members_by area (set area (k / 64) v) n k v up bits wrote; beyond = past }
     where
       summary : Summary area n → (w : ℕ) → w < n / 64 + 1 → (t : Bool) → eqb w (k / 64) ≡ t → member (drop (n / 64 + 1) (set area (k / 64) v)) w ≡ not (eqb (get_or (set area (k / 64) v) w 0) 0)
@@ -247,24 +260,34 @@ module _ (up : Bool) (area : List ℕ) (n k v : ℕ) (room : n ≤ length area) 
           beyond = past_after;
         }
 
--- ---- the word that decides whether the summary changes: the old one where k is put in, the new one where it is taken out
+-- ---- whether the summary changes: where the word was 0 and is not, or the other way round
 
-kept-some : (up : Bool) (x b v : ℕ) → Turned up x b v → ((up ≡ true) × (x ≢ 0)) ⊎ ((up ≡ false) × (v ≢ 0)) → eqb v 0 ≡ eqb x 0
-kept-some up x b v t (inl h) = ne_eqb v 0 (on_some x b v (rw h.0 at t)) ∙ sym (ne_eqb x 0 h.1)
-kept-some up x b v t (inr h) = ne_eqb v 0 h.1 ∙ sym (ne_eqb x 0 (off_some x b v (rw h.0 at t) h.1))
+pub same_test : (s t : Bool) → beq s t ≡ true → t ≡ s
+same_test true true e = refl
+same_test false false e = refl
+same_test true false e = absurd (false≢true e)
+same_test false true e = absurd (false≢true e)
 
-flips_by : (up : Bool) (x b v : ℕ) → Turned up x b v → ((up ≡ true) × (x ≡ 0)) ⊎ ((up ≡ false) × (v ≡ 0)) → updated up (not (eqb x 0)) true ≡ not (eqb v 0)
-flips_by up x b v t (inl h) = rw (h.0, eq-eqb x 0 h.1, ne_eqb v 0 (on_some x b v (rw h.0 at t)))
-flips_by up x b v t (inr h) = rw (h.0, eq-eqb v 0 h.1) (and_none (not (eqb x 0)))
+pub other_test : (s t : Bool) → beq s t ≡ false → t ≢ s
+other_test s t e q = absurd (false≢true (sym e ∙ ap (beq s) q ∙ itself s))
+  where
+    itself : (s : Bool) → beq s s ≡ true
+    itself true = refl
+    itself false = refl
+
+flips_by : (up : Bool) (x b v : ℕ) → Turned up x b v → eqb v 0 ≢ eqb x 0 → updated up (not (eqb x 0)) true ≡ not (eqb v 0)
+flips_by up x b v t n = go up t (eqb x 0) (eqb v 0) refl refl n
+  where
+    go : (up : Bool) → Turned up x b v → (s w : Bool) → eqb x 0 ≡ s → eqb v 0 ≡ w → w ≢ s → updated up (not s) true ≡ not w
+    go up t true true e f n = absurd (n refl)
+    go up t false false e f n = absurd (n refl)
+    go true t true false e f n = refl
+    go false t false true e f n = refl
+    go true t false true e f n = absurd (on_some x b v t (eqb-true v 0 f))
+    go false t true false e f n = absurd (off_some x b v t (eqb-false v 0 f) (eqb-true x 0 e))
 
 module _ (up : Bool) (area : List ℕ) (n k v : ℕ) (room : n ≤ length area) (below : k < n) (levels : Levels area n) (bits : Turned up (get_or area (k / 64) 0) (k % 64) v) where
-  pub mark_on : up ≡ true → get_or area (k / 64) 0 ≢ 0 → Marked up area n k (set area (k / 64) v)
-  mark_on e h = mark_same up area n k v room below levels bits (kept-some up (get_or area (k / 64) 0) (k % 64) v bits (inl (e, h)))
-
-  pub mark_off : up ≡ false → v ≢ 0 → Marked up area n k (set area (k / 64) v)
-  mark_off e h = mark_same up area n k v room below levels bits (kept-some up (get_or area (k / 64) 0) (k % 64) v bits (inr (e, h)))
-
-  pub mark_rest : 64 ≤ n → (part : List ℕ) → Marked up (mid_of (n / 64 + 1) (length (set area (k / 64) v) - (n / 64 + 1)) (set area (k / 64) v)) (n / 64 + 1) (k / 64) part → ((up ≡ true) × (get_or area (k / 64) 0 ≡ 0)) ⊎ ((up ≡ false) × (v ≡ 0)) → Marked up area n k (put_mid (n / 64 + 1) (length (set area (k / 64) v) - (n / 64 + 1)) (set area (k / 64) v) part)
+  pub mark_rest : 64 ≤ n → (part : List ℕ) → Marked up (mid_of (n / 64 + 1) (length (set area (k / 64) v) - (n / 64 + 1)) (set area (k / 64) v)) (n / 64 + 1) (k / 64) part → eqb v 0 ≢ eqb (get_or area (k / 64) 0) 0 → Marked up area n k (put_mid (n / 64 + 1) (length (set area (k / 64) v) - (n / 64 + 1)) (set area (k / 64) v) part)
   mark_rest big part by h = mark_deep up area n k v room below levels bits big part by (flips_by up (get_or area (k / 64) 0) (k % 64) v bits h)
 
 pub put_length : (area : List ℕ) (w v m : ℕ) (part : List ℕ) → length part ≡ length (mid_of m (length (set area w v) - m) (set area w v)) → length (put_mid m (length (set area w v) - m) (set area w v) part) ≡ length area

@@ -1,3 +1,4 @@
+pub mod Clearing
 pub mod Empty
 pub mod Levels
 pub mod Front

@@ -1,6 +1,6 @@
 -- What a set of numbers in words of 64 bits holds, and the summaries after the words.
 -- Assumes nothing.
-use Rattle.std.specs.Prelude.{ℕ, suc, ◌+◌, ◌*◌, ◌/◌, ◌%◌, ◌≤◌, ◌<◌, ◌≡◌, Bool, true, false, not, List, eqb, get_or, drop}
+use Rattle.std.specs.Prelude.{ℕ, suc, ◌+◌, ◌*◌, ◌/◌, ◌%◌, ◌≤◌, ◌<◌, ◌≡◌, Bool, true, false, not, List, eqb, get_or, drop, Option, MatchOption}
 use Rattle.laws.specs.Digits.{is_set, updated}
 
 -- whether the set has the number k
@@ -23,11 +23,19 @@ pub record First (p : ℕ → Bool) (k n r : ℕ) : Type 0 where
   pub none : (j : ℕ) → k ≤ j → j < r → j < n → p j ≡ false
   pub here : r < n → p r ≡ true
 
+-- the first number from k on, below n, that passes, or none
+abbrev pub FirstIs : (ℕ → Bool) → ℕ → ℕ → Option ℕ → Type 0
+FirstIs p k n r = MatchOption r (First p k n n) (λ x. (x < n) × First p k n x)
+
 -- e is the end of the numbers below k that pass: the last one and 1, or 0
 pub record Last (p : ℕ → Bool) (k e : ℕ) : Type 0 where
   pub upto : e ≤ k
   pub none : (j : ℕ) → e ≤ j → j < k → p j ≡ false
   pub here : (x : ℕ) → e ≡ suc x → p x ≡ true
+
+-- the last number below k that passes, or none
+abbrev pub LastIs : (ℕ → Bool) → ℕ → Option ℕ → Type 0
+LastIs p k r = MatchOption r (Last p k 0) (λ x. Last p k (suc x))
 
 -- the set with k, or without; the words after the set and its summaries stay
 pub record Marked (up : Bool) (before : List ℕ) (n k : ℕ) (after : List ℕ) : Type 0 where

@@ -1,58 +1,55 @@
 // A set of numbers below n in words of 64 bits, each level followed by its summary: bit w of the summary says that word w is not 0.
 // It takes at most n words, and each call looks at one word of a level.
+// The words are a lent area, which the caller fills and writes to between the calls: so each call takes them as a slice, with n.
 
 #![tactic(auto)]
 
 ghost use Rattle.std.specs.Prelude.{◌+◌, ◌*◌, ◌≤◌, ◌<◌, length};
 ghost use Rattle.laws.specs.Digits.{Turned};
-ghost use Rattle.readyset.specs.Sets.{member, Levels, First, Last, Marked};
+ghost use Rattle.readyset.specs.Sets.{member, Levels, FirstIs, LastIs, Marked};
 
-// The first member from k on; n or more where there is none.
-pub fn next(area: &[usize], n: usize, k: usize) -> usize
+// The first member from k on.
+pub fn next(area: &[usize], n: usize, k: usize) -> Option<usize>
     requires { (n ≤ length area.now) × (k ≤ n) × Levels area.now n }
-    ensures { First (member area.now) k n result }
+    ensures { FirstIs (member area.now) k n result }
 {
     if n <= k {
-        return n;
+        return None;
     }
     let w = k / 64;
     let rest = area[w] >> (k % 64);
     if rest != 0 {
-        return k + usize::trailing_zeros(rest) as usize;
+        let here = k + rest.trailing_zeros() as usize;
+        return (here < n).then_some(here);
     }
     if n < 64 {
-        return n;
+        return None;
     }
     let m = n / 64 + 1;
-    let found = next(&area[m..], m, w + 1);
-    if m <= found {
-        return n;
-    }
-    64 * found + usize::trailing_zeros(area[found]) as usize
+    let found = next(&area[m..], m, w + 1)?;
+    let there = 64 * found + area[found].trailing_zeros() as usize;
+    (there < n).then_some(there)
 }
 
-// The end of the members below k: the last one and 1, or 0 where there is none.
-pub fn end(area: &[usize], n: usize, k: usize) -> usize
+// The last member below k.
+pub fn last(area: &[usize], n: usize, k: usize) -> Option<usize>
     requires { (n ≤ length area.now) × (k ≤ n) × Levels area.now n }
-    ensures { Last (member area.now) k result }
+    ensures { LastIs (member area.now) k result }
 {
     if k == 0 {
-        return 0;
+        return None;
     }
     let w = k / 64;
     let rest = area[w] & ((1 << (k % 64)) - 1);
     if rest != 0 {
-        return 64 * w + (64 - usize::leading_zeros(rest) as usize);
+        return Some(64 * w + (63 - rest.leading_zeros() as usize));
     }
     if n < 64 {
-        return 0;
+        return None;
     }
     let m = n / 64 + 1;
-    let found = end(&area[m..], m, w);
-    if found == 0 {
-        return 0;
-    }
-    64 * (found - 1) + (64 - usize::leading_zeros(area[found - 1]) as usize)
+    let found = last(&area[m..], m, w)?;
+    Some(64 * found + (63 - area[found].leading_zeros() as usize))
 }
 
 // The word with the bit b set, or cleared.
@@ -61,9 +58,10 @@ fn with_bit(word: usize, b: usize, up: bool) -> usize
     ensures { Turned up word b result }
 {
     if up {
-        return word | (1 << b);
+        word | (1 << b)
+    } else {
+        word & !(1 << b)
     }
-    word ^ (word & (1 << b))
 }
 
 // Puts k into the set, or takes it out.
@@ -75,16 +73,8 @@ pub fn mark(area: &mut [usize], n: usize, k: usize, up: bool)
     let old = area[w];
     let new = with_bit(old, k % 64, up);
     area[w] = new;
-    if up {
-        if old != 0 {
-            return;
-        }
-    } else {
-        if new != 0 {
-            return;
-        }
-    }
-    if n < 64 {
+    let summary_stays = (old == 0) == (new == 0);
+    if n < 64 || summary_stays {
         return;
     }
     let m = n / 64 + 1;

@@ -1,34 +1,32 @@
 -- What the exported calls give: the number and counts of each answer, and the areas of the libraries' definitions.
 -- Assumes nothing.
-use Rattle.std.specs.Prelude.{ℕ, ◌≡◌, List}
-use Rattle.circuit.specs.declared.refusals.Read.{Read}
-use Rattle.circuit.specs.declared.refusals.Read.TheVariants.{Circuit as Accepted, Refused}
+use Rattle.std.specs.Prelude.{ℕ, ◌≡◌, List, Ok, Err}
+use Rattle.circuit.specs.declared.records.Sizes.{Sizes}
 use Rattle.circuit.specs.Refusals.{number_of, Try}
 use Rattle.circuit.specs.Circuits.{Circuit, read_answer}
 use Rattle.reading.specs.Areas.{Leaves}
 use Rattle.bristol.specs.Bristol as bristol
 use Rattle.bristol.specs.Promises as bristol_promises
-use Rattle.schedule.specs.declared.Ordered.{Ordered}
 use Rattle.schedule.specs.Call as schedule
 use Rattle.runs.specs.Calls.{Result, Assigned}
 
 -- ---- the readers
 
 -- "A refusal returns its number, any other result 0"
-abbrev pub read_number : Read → ℕ
-read_number (Accepted n m) = 0
-read_number (Refused e) = number_of e
+abbrev pub read_number : Try Sizes → ℕ
+read_number (Ok s) = 0
+read_number (Err e) = number_of e
 
 -- the number of nodes, and of outputs: 0 on a refusal
-abbrev pub read_nodes : Read → ℕ
-read_nodes (Accepted n m) = n
-read_nodes (Refused e) = 0
+abbrev pub read_nodes : Try Sizes → ℕ
+read_nodes (Ok s) = s.nodes
+read_nodes (Err e) = 0
 
-abbrev pub read_outputs : Read → ℕ
-read_outputs (Accepted n m) = m
-read_outputs (Refused e) = 0
+abbrev pub read_outputs : Try Sizes → ℕ
+read_outputs (Ok s) = s.outputs
+read_outputs (Err e) = 0
 
-pub record ReadGives (read : Read) (number nodes outputs : ℕ) : Type 0 where
+pub record ReadGives (read : Try Sizes) (number nodes outputs : ℕ) : Type 0 where
   pub number_is : number ≡ read_number read
   pub nodes_are : nodes ≡ read_nodes read
   pub outputs_are : outputs ≡ read_outputs read
@@ -43,14 +41,25 @@ pub record BristolCall (left : bristol.Left) (number node_count output_count : �
   pub gives : ReadGives left.answer number node_count output_count
   pub leaves : bristol_promises.Leaves left left.answer nodes outputs wires
 
+-- ---- the calls that count cells, outputs or inputs
+
+abbrev pub count_number : Try ℕ → ℕ
+count_number (Ok n) = 0
+count_number (Err e) = number_of e
+
+-- how many there are: 0 on a refusal
+abbrev pub count_of : Try ℕ → ℕ
+count_of (Ok n) = n
+count_of (Err e) = 0
+
+pub record CountGives (counted : Try ℕ) (number count : ℕ) : Type 0 where
+  pub number_is : number ≡ count_number counted
+  pub count_is : count ≡ count_of counted
+
 -- ---- the schedule
 
-pub record OrderGives (ordered : Ordered) (number cells : ℕ) : Type 0 where
-  pub number_is : number ≡ schedule.ordered_number ordered
-  pub cells_are : cells ≡ schedule.ordered_cells ordered
-
 pub record OrderCall (left : schedule.Left) (number cells : ℕ) (ready successors order : List ℕ) : Type 0 where
-  pub gives : OrderGives left.answer number cells
+  pub gives : CountGives left.answer number cells
   pub leaves : schedule.leaves left.answer ready successors order ≡ left
 
 -- ---- the runs

@@ -5,7 +5,7 @@ ghost use Rattle.circuit.specs.Check.{topological_fault};
 ghost use Rattle.schedule.specs.Call.{schedule_call};
 ghost use Rattle.relay.specs.Answers.{OrderCall};
 
-use crate::answers::{answer_checked, answer_ordered};
+use crate::answers::{answer_checked, answer_counted};
 use circuit::check::validate_topological;
 use schedule::scheduled_gates_by_key;
 
@@ -33,5 +33,5 @@ pub extern "C" fn relay_scheduled_gates_by_key(
     ensures { OrderCall (schedule_call nodes.now outputs.now window keys.now ready.old successors.old order.old) result cell_count.new ready.new successors.new order.new }
 {
     let ordered = scheduled_gates_by_key(nodes, outputs, window, keys, ready, successors, order);
-    answer_ordered(ordered, cell_count)
+    answer_counted(ordered, cell_count)
 }

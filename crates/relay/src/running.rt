@@ -3,7 +3,7 @@ ghost use Rattle.std.specs.Prelude.{◌≡◌};
 ghost use Rattle.runs.specs.Calls.{evaluate_call, run_call, exhaustive_call};
 ghost use Rattle.relay.specs.Answers.{result_of, assigned};
 
-use crate::answers::{answer_evaluated, answer_numbered, answer_ran};
+use crate::answers::answer_counted;
 use runs::evaluate::evaluate;
 use runs::numbered::exhaustive_inputs;
 use runs::run::run;
@@ -21,7 +21,7 @@ pub extern "C" fn relay_evaluate(
     ensures { result_of result output_count.new values.new answers.new ≡ evaluate_call nodes.now outputs.now assignment.now values.old answers.old }
 {
     let evaluated = evaluate(nodes, outputs, assignment, values, answers);
-    answer_evaluated(evaluated, output_count)
+    answer_counted(evaluated, output_count)
 }
 
 // The outputs along an order list, for values 0, 1 and 2 (unknown); the values are a work area.
@@ -38,7 +38,7 @@ pub extern "C" fn relay_run(
     ensures { result_of result cell_count.new values.new answers.new ≡ run_call nodes.now outputs.now order.now assignment.now values.old answers.old }
 {
     let ran = run(nodes, outputs, order, assignment, values, answers);
-    answer_ran(ran, cell_count)
+    answer_counted(ran, cell_count)
 }
 
 // One numbered assignment of all.
@@ -53,5 +53,5 @@ pub extern "C" fn relay_exhaustive_inputs(
     ensures { assigned result input_count.new assignment.new ≡ exhaustive_call nodes.now outputs.now number assignment.old }
 {
     let numbered = exhaustive_inputs(nodes, outputs, number, assignment);
-    answer_numbered(numbered, input_count)
+    answer_counted(numbered, input_count)
 }

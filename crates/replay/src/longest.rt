@@ -2,8 +2,7 @@
 ghost use Rattle.std.specs.Prelude.{◌≡◌, ◌≤◌, length};
 
 use blif::read::parse_blif;
-use circuit::refusals::{Read, refusal_number};
-use printing::rooms::{name_room, node_room, output_room};
+use printing::rooms::room;
 use std::io;
 
 fn spaces() -> [u8; 1048577]
@@ -18,19 +17,18 @@ fn spaces_number(size: usize) -> usize
 {
     let text = spaces();
     let mut joined = spaces();
-    let mut nodes = node_room();
-    let mut names = name_room();
-    let mut outputs = output_room();
-    let read = parse_blif(
+    let mut nodes: [usize; 9216] = room();
+    let mut names: [usize; 4096] = room();
+    let mut outputs: [usize; 5120] = room();
+    match parse_blif(
         &text[..size],
         &mut joined,
         &mut nodes,
         &mut names,
         &mut outputs,
-    );
-    match read {
-        Read::Refused(e) => refusal_number(e),
-        Read::Circuit { .. } => 0,
+    ) {
+        Ok(_) => 0,
+        Err(e) => usize::from(e),
     }
 }
 

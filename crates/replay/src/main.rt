@@ -3,77 +3,52 @@
 
 #![tactic(auto)]
 
-ghost use Rattle.std.specs.Prelude.{◌+◌, ◌≤◌, ◌<◌, length};
+ghost use Rattle.std.specs.Prelude.{◌≡◌, ◌<◌, length, IfSome, IsTrue};
 
-use crate::formats::{lists_bench, lists_blif, lists_bristol};
 use crate::longest::print_longest;
+use arrayvec::ArrayVec;
+use bench::read::Bench;
+use blif::read::Blif;
 use printing::input::read_full;
-use printing::rooms::text_room;
+use printing::listed::{Bristol, Joined, Listed};
+use printing::rooms::room;
 use std::fs::File;
 use std::io;
 use std::rt::Files;
-use text::numbers::wide;
 
-mod answers;
-mod formats;
 mod longest;
 
-#[derive(Clone, Copy)]
-enum Format {
-    Blif,
-    Bench,
-    Bristol,
+// Whether a text is listed as recorded.
+fn lists<L: Listed>(text: &[u8], answer: &[u8]) -> bool
+    ensures { IsTrue result → L.printed text.now ≡ answer.now }
+{
+    let mut out: ArrayVec<u8, 65536> = ArrayVec::new();
+    L::list(&mut out, text).is_ok() && out.as_slice() == answer
 }
 
-// Whether a text has the recorded answer.
-fn lists(format: Format, text: &[u8], answer: &[u8]) -> bool {
-    match format {
-        Format::Blif => lists_blif(text, answer),
-        Format::Bench => lists_bench(text, answer),
-        Format::Bristol => lists_bristol(text, answer),
-    }
+// A text, its answer, and the records after it.
+#[derive(Clone, Copy)]
+struct Record<'a> {
+    text: &'a [u8],
+    answer: &'a [u8],
+    rest: &'a [u8],
 }
 
 // A number of two bytes, the higher first.
-fn pair(recorded: &[u8], at: usize) -> usize
-    requires { at + 1 < length recorded.now }
+fn pair(high: u8, low: u8) -> usize
     ensures { result < 65536 }
 {
-    wide(recorded[at]) * 256 + wide(recorded[at + 1])
+    usize::from(u16::from_be_bytes([high, low]))
 }
 
-// Whether a record comes out the same, and where the next one starts; the same place if the data ends first.
-#[derive(Clone, Copy)]
-struct Replayed {
-    same: bool,
-    next: usize,
-}
-
-// A record: the length of the text and that of the answer, two bytes each, the text and the answer.
-fn replay_one(format: Format, recorded: &[u8], at: usize) -> Replayed
-    requires { at < length recorded.now }
-    ensures { result.next ≤ length recorded.now }
+// The first record: the length of the text and that of the answer, two bytes each, the text and the answer. None where the data ends before.
+fn next_record(recorded: &[u8]) -> Option<Record<'_>>
+    ensures { IfSome result (λ r. length r.rest.now < length recorded.now) }
 {
-    let left = recorded.len() - at;
-    if left < 4 {
-        return Replayed {
-            same: false,
-            next: at,
-        };
-    }
-    let len = pair(recorded, at);
-    let size = pair(recorded, at + 2);
-    if left - 4 < len + size {
-        return Replayed {
-            same: false,
-            next: at,
-        };
-    }
-    let start = at + 4;
-    let from = start + len;
-    let next = from + size;
-    let same = lists(format, &recorded[start..from], &recorded[from..next]);
-    Replayed { same, next }
+    let (sizes, rest) = recorded.split_at_checked(4)?;
+    let (text, rest) = rest.split_at_checked(pair(sizes[0], sizes[1]))?;
+    let (answer, rest) = rest.split_at_checked(pair(sizes[2], sizes[3]))?;
+    Some(Record { text, answer, rest })
 }
 
 #[derive(Clone, Copy)]
@@ -82,42 +57,42 @@ struct Counts {
     same: u64,
 }
 
-// All records of a file.
-fn replay(format: Format, recorded: &[u8]) -> Counts {
-    let mut at = 0;
-    let mut records: u64 = 0;
-    let mut same: u64 = 0;
-    while at < recorded.len() {
-        let r = replay_one(format, recorded, at);
-        if r.next <= at {
-            return Counts { records, same: 0 };
+// All records of a file; none is counted as the same where the last one is cut off.
+fn replay<L: Listed>(recorded: &[u8]) -> Counts {
+    let mut counts = Counts {
+        records: 0,
+        same: 0,
+    };
+    let mut rest = recorded;
+    // Each record says where the next begins, so there is no range to count over.
+    while !rest.is_empty() {
+        let Some(record) = next_record(rest) else {
+            return Counts { same: 0, ..counts };
+        };
+        counts.records += 1;
+        if lists::<L>(record.text, record.answer) {
+            counts.same += 1;
         }
-        records += 1;
-        if r.same {
-            same += 1;
-        }
-        at = r.next;
+        rest = record.rest;
     }
-    Counts { records, same }
+    counts
 }
 
-fn replay_file(rt: &(impl Files + Print), format: Format, name: &str) -> io::Result<()> {
+fn replay_file<L: Listed>(rt: &(impl Files + Print), name: &str) -> io::Result<()> {
     let Ok(mut file) = File::open(rt, name) else {
         return Ok(());
     };
-    let mut recorded = text_room();
+    let mut recorded: [u8; 65536] = room();
     let n = read_full(&mut file, &mut recorded)?;
-    let counts = replay(format, &recorded[..n]);
-    let records = counts.records;
-    let same = counts.same;
+    let Counts { records, same } = replay::<L>(&recorded[..n]);
     println!(rt; "{name}: {records} records, {same} the same")
 }
 
 fn main(rt: HostRuntime) -> io::Result<()> {
-    replay_file(&rt, Format::Blif, "blif")?;
-    replay_file(&rt, Format::Bench, "bench")?;
-    replay_file(&rt, Format::Bristol, "bristol")?;
-    replay_file(&rt, Format::Blif, "blif_of_tools")?;
-    replay_file(&rt, Format::Bench, "bench_of_tools")?;
+    replay_file::<Joined<Blif>>(&rt, "blif")?;
+    replay_file::<Joined<Bench>>(&rt, "bench")?;
+    replay_file::<Bristol>(&rt, "bristol")?;
+    replay_file::<Joined<Blif>>(&rt, "blif_of_tools")?;
+    replay_file::<Joined<Bench>>(&rt, "bench_of_tools")?;
     print_longest(&rt)
 }

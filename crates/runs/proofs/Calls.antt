@@ -1,5 +1,6 @@
 -- The first refusal of each call, what an accepted call has, and what a call leaves.
 -- Assumes nothing.
+use Rattle.std.specs.Prelude.{Err, Ok}
 use mathlib.Core.Path.{◌≡◌, refl, sym, ap, ◌∙◌}
 use mathlib.Core.List.{List, [], ◌++◌}
 use mathlib.Core.Bool.{Bool, true, false, not, ◌&&◌}
@@ -12,8 +13,7 @@ use Rattle.laws.specs.Lists.{some}
 use Rattle.laws.proofs.Tests.{and-true, neither}
 use Rattle.circuit.specs.declared.refusals.Refusal.{Refusal}
 use Rattle.circuit.specs.declared.refusals.Refusal.TheVariants.{NoRoom, WrongValues, UnfitOrder}
-use Rattle.circuit.specs.declared.refusals.Checked.{Checked}
-use Rattle.circuit.specs.declared.refusals.Checked.TheVariants.{Sound, Refused}
+use Rattle.circuit.specs.Refusals.{Checked}
 use Rattle.circuit.specs.declared.records.BoolNode.{BoolNode}
 use Rattle.circuit.specs.Refusals.{number_of, refuse_if}
 use Rattle.circuit.specs.Records.{nodes_of}
@@ -21,12 +21,10 @@ use Rattle.circuit.specs.Check.{some_not_below, whole, check_nodes, check_circui
 use Rattle.circuit.specs.Graph.{graph_of, cells_of, fit, fit_list}
 use Rattle.circuit.proofs.Codes.{length_nodes}
 use Rattle.circuit.proofs.Checks.{no_fault, not_refused}
-use Rattle.runs.specs.declared.run.Ran.TheVariants.{Cells, Refused as NotRun}
-use Rattle.runs.specs.declared.evaluate.Evaluated.TheVariants.{Outputs, Refused as NotEvaluated}
 use Rattle.runs.specs.Values.{entry_of, values_from, evaluated}
 use Rattle.runs.specs.Runs.{input_count, wrong_assignment, run_store, run_outputs}
 use Rattle.runs.specs.Fit.{Accepted}
-use Rattle.runs.specs.Calls.{assignment_fault, order_fault, room_fault, run_fault, evaluate_fault, Result, leaves, run_call, evaluate_call, ran_result, evaluated_result}
+use Rattle.runs.specs.Calls.{assignment_fault, order_fault, room_fault, run_fault, evaluate_fault, Result, leaves, run_call, evaluate_call, call_result}
 use Rattle.runs.proofs.Turns.{cells_inputs, length-outputs}
 
 -- ---- 20
@@ -75,15 +73,15 @@ module _ (top : ℕ) (ns : List BoolNode) (assignment : List ℕ) where
 -- ---- 3
 
 module _ (nodes outputs : List ℕ) (store answers : ℕ) where
-  pub no_store : store < length nodes / 9 → Refused NoRoom ≡ room_fault nodes outputs store answers
+  pub no_store : store < length nodes / 9 → Err NoRoom ≡ room_fault nodes outputs store answers
   unfolding room_fault
   no_store h = rw (lt-ltb store (length nodes / 9) h)
 
-  pub no_answers : length nodes / 9 ≤ store → answers < length outputs / 5 → Refused NoRoom ≡ room_fault nodes outputs store answers
+  pub no_answers : length nodes / 9 ≤ store → answers < length outputs / 5 → Err NoRoom ≡ room_fault nodes outputs store answers
   unfolding room_fault
   no_answers h l = rw (le-ltb store (length nodes / 9) h, lt-ltb answers (length outputs / 5) l)
 
-  pub has_room : length nodes / 9 ≤ store → length outputs / 5 ≤ answers → Sound ≡ room_fault nodes outputs store answers
+  pub has_room : length nodes / 9 ≤ store → length outputs / 5 ≤ answers → (Ok tt) ≡ room_fault nodes outputs store answers
   unfolding room_fault
   has_room h l = rw (le-ltb store (length nodes / 9) h, le-ltb answers (length outputs / 5) l)
 
@@ -91,7 +89,7 @@ module _ (nodes outputs : List ℕ) (store answers : ℕ) where
     pub store_room : length nodes / 9 ≤ store
     pub answers_room : length outputs / 5 ≤ answers
 
-  room_of : room_fault nodes outputs store answers ≡ Sound → Room
+  pub room_of : room_fault nodes outputs store answers ≡ Ok tt → Room
   unfolding room_fault
   room_of e =
       let g = neither (ltb store (length nodes / 9)) (ltb answers (length outputs / 5)) (not_refused _ NoRoom e) in
@@ -99,8 +97,8 @@ module _ (nodes outputs : List ℕ) (store answers : ℕ) where
 
 -- ---- a circuit that the check accepts, in its areas
 
-module _ (nodes outputs : List ℕ) (e : topological_fault nodes outputs ≡ Sound) where
-  checked : (check_nodes (length nodes / 9) 0 (nodes_in nodes) ≡ Sound) × (some_not_below (length nodes / 9) (wires_in outputs) ≡ false)
+module _ (nodes outputs : List ℕ) (e : topological_fault nodes outputs ≡ Ok tt) where
+  checked : (check_nodes (length nodes / 9) 0 (nodes_in nodes) ≡ Ok tt) × (some_not_below (length nodes / 9) (wires_in outputs) ≡ false)
   unfolding topological_fault check_circuit
   checked =
       let both = no_fault (refuse_if (not (whole nodes outputs)) _) (check_circuit (nodes_in nodes) (wires_in outputs)) e in
@@ -117,17 +115,17 @@ module _ (nodes outputs : List ℕ) (e : topological_fault nodes outputs ≡ Sou
 -- ---- the run's first refusal
 
 module _ (nodes outputs order assignment : List ℕ) (store answers : ℕ) where
-  pub run_unchecked : (r : Refusal) → topological_fault nodes outputs ≡ Refused r → Refused r ≡ run_fault nodes outputs order assignment store answers
+  pub run_unchecked : (r : Refusal) → topological_fault nodes outputs ≡ Err r → Err r ≡ run_fault nodes outputs order assignment store answers
   unfolding run_fault
   run_unchecked r e = rw e
 
-  module _ (e : topological_fault nodes outputs ≡ Sound) where
-    pub run_unassigned : wrong_assignment 2 (nodes_in nodes) assignment ≡ true → Refused WrongValues ≡ run_fault nodes outputs order assignment store answers
+  module _ (e : topological_fault nodes outputs ≡ Ok tt) where
+    pub run_unassigned : wrong_assignment 2 (nodes_in nodes) assignment ≡ true → Err WrongValues ≡ run_fault nodes outputs order assignment store answers
     unfolding run_fault assignment_fault
     run_unassigned a = rw (e, a)
 
     module _ (a : wrong_assignment 2 (nodes_in nodes) assignment ≡ false) where
-      pub run_unfit : fit_list (graph_of (nodes_in nodes)) order ≡ false → Refused UnfitOrder ≡ run_fault nodes outputs order assignment store answers
+      pub run_unfit : fit_list (graph_of (nodes_in nodes)) order ≡ false → Err UnfitOrder ≡ run_fault nodes outputs order assignment store answers
       unfolding run_fault assignment_fault order_fault
       run_unfit f = rw (e, a, f)
 
@@ -137,13 +135,13 @@ module _ (nodes outputs order assignment : List ℕ) (store answers : ℕ) where
 
   -- what an accepted run has
   pub record Runs : Type 0 where
-    pub checks : topological_fault nodes outputs ≡ Sound
+    pub checks : topological_fault nodes outputs ≡ Ok tt
     pub inputs : length assignment ≡ input_count (nodes_in nodes)
     pub values : some (ltb 2) assignment ≡ false
     pub fits : fit_list (graph_of (nodes_in nodes)) order ≡ true
     pub room : Room nodes outputs store answers
 
-  pub runs_of : run_fault nodes outputs order assignment store answers ≡ Sound → Runs
+  pub runs_of : run_fault nodes outputs order assignment store answers ≡ Ok tt → Runs
   unfolding run_fault assignment_fault order_fault
   runs_of h =
       let p = no_fault (topological_fault nodes outputs) _ h in
@@ -167,12 +165,12 @@ module _ (nodes outputs order assignment : List ℕ) (store answers : ℕ) where
 -- ---- `evaluate`'s first refusal
 
 module _ (nodes outputs assignment : List ℕ) (store answers : ℕ) where
-  pub evaluate_unchecked : (r : Refusal) → topological_fault nodes outputs ≡ Refused r → Refused r ≡ evaluate_fault nodes outputs assignment store answers
+  pub evaluate_unchecked : (r : Refusal) → topological_fault nodes outputs ≡ Err r → Err r ≡ evaluate_fault nodes outputs assignment store answers
   unfolding evaluate_fault
   evaluate_unchecked r e = rw e
 
-  module _ (e : topological_fault nodes outputs ≡ Sound) where
-    pub evaluate_unassigned : wrong_assignment 1 (nodes_in nodes) assignment ≡ true → Refused WrongValues ≡ evaluate_fault nodes outputs assignment store answers
+  module _ (e : topological_fault nodes outputs ≡ Ok tt) where
+    pub evaluate_unassigned : wrong_assignment 1 (nodes_in nodes) assignment ≡ true → Err WrongValues ≡ evaluate_fault nodes outputs assignment store answers
     unfolding evaluate_fault assignment_fault
     evaluate_unassigned a = rw (e, a)
 
@@ -181,12 +179,12 @@ module _ (nodes outputs assignment : List ℕ) (store answers : ℕ) where
     evaluate_assigned a = rw (e, a)
 
   pub record Evaluates : Type 0 where
-    pub checks : topological_fault nodes outputs ≡ Sound
+    pub checks : topological_fault nodes outputs ≡ Ok tt
     pub inputs : length assignment ≡ input_count (nodes_in nodes)
     pub bits : some (ltb 1) assignment ≡ false
     pub room : Room nodes outputs store answers
 
-  pub evaluates_of : evaluate_fault nodes outputs assignment store answers ≡ Sound → Evaluates
+  pub evaluates_of : evaluate_fault nodes outputs assignment store answers ≡ Ok tt → Evaluates
   unfolding evaluate_fault assignment_fault
   evaluates_of h =
       let p = no_fault (topological_fault nodes outputs) _ h in
@@ -197,12 +195,12 @@ module _ (nodes outputs assignment : List ℕ) (store answers : ℕ) where
 -- ---- what a call leaves
 
 module _ (fault : Checked) (count : ℕ) (full : List ℕ) (size answers : ℕ) where
-  pub leaves_accepted : fault ≡ Sound → (n : ℕ) (s o : List ℕ) → n ≡ count → s ≡ replicate size 0 → o ≡ full ++ replicate (answers - length full) 0
+  pub leaves_accepted : fault ≡ Ok tt → (n : ℕ) (s o : List ℕ) → n ≡ count → s ≡ replicate size 0 → o ≡ full ++ replicate (answers - length full) 0
       → ◌≡◌ {A = Result} (record { number = 0; count = n; store = s; outputs = o }) (leaves fault count full size answers)
   unfolding leaves
   leaves_accepted e n s o p q r = rw e (λ i. record { number = 0; count = p i; store = q i; outputs = r i })
 
-  pub leaves_refused : (x : Refusal) → fault ≡ Refused x → (s o : List ℕ) → s ≡ replicate size 0 → o ≡ replicate answers 0
+  pub leaves_refused : (x : Refusal) → fault ≡ Err x → (s o : List ℕ) → s ≡ replicate size 0 → o ≡ replicate answers 0
       → ◌≡◌ {A = Result} (record { number = number_of x; count = 0; store = s; outputs = o }) (leaves fault count full size answers)
   unfolding leaves
   leaves_refused x e s o q r = rw e (λ i. record { number = number_of x; count = 0; store = q i; outputs = r i })
@@ -212,9 +210,9 @@ module _ (nodes outputs order assignment store answers : List ℕ) where
   unfolding run_outputs
   run_length = length-outputs (run_store (nodes_in nodes) assignment order store) outputs (length outputs / 5)
 
-  pub run-leaves : run_fault nodes outputs order assignment (length store) (length answers) ≡ Sound → (s o : List ℕ) → s ≡ replicate (length store) 0
+  pub run-leaves : run_fault nodes outputs order assignment (length store) (length answers) ≡ Ok tt → (s o : List ℕ) → s ≡ replicate (length store) 0
       → o ≡ run_outputs (nodes_in nodes) (wires_in outputs) assignment order store ++ replicate (length answers - length outputs / 5) 0
-      → ran_result (Cells (length order)) s o ≡ run_call nodes outputs order assignment store answers
+      → call_result (Ok (length order)) s o ≡ run_call nodes outputs order assignment store answers
   unfolding run_call
   run-leaves e s o q r =
       leaves_accepted (run_fault nodes outputs order assignment (length store) (length answers)) (length (cells_of (graph_of (nodes_in nodes))))
@@ -222,8 +220,8 @@ module _ (nodes outputs order assignment store answers : List ℕ) where
       (cells-of nodes outputs order assignment (length store) (length answers) (runs_of nodes outputs order assignment (length store) (length answers) e)) q
       (r ∙ ap (λ (k : ℕ). run_outputs (nodes_in nodes) (wires_in outputs) assignment order store ++ replicate (length answers - k) 0) (sym run_length))
 
-  pub run_refused : (x : Refusal) → run_fault nodes outputs order assignment (length store) (length answers) ≡ Refused x → (s o : List ℕ) → s ≡ replicate (length store) 0 → o ≡ replicate (length answers) 0
-      → ran_result (NotRun x) s o ≡ run_call nodes outputs order assignment store answers
+  pub run_refused : (x : Refusal) → run_fault nodes outputs order assignment (length store) (length answers) ≡ Err x → (s o : List ℕ) → s ≡ replicate (length store) 0 → o ≡ replicate (length answers) 0
+      → call_result (Err x) s o ≡ run_call nodes outputs order assignment store answers
   unfolding run_call
   run_refused x e s o q r =
       leaves_refused (run_fault nodes outputs order assignment (length store) (length answers)) (length (cells_of (graph_of (nodes_in nodes))))
@@ -234,17 +232,17 @@ module _ (nodes outputs assignment store answers : List ℕ) where
   unfolding evaluated
   evaluate_length = length-outputs (values_from entry_of assignment 0 [] (nodes_in nodes)) outputs (length outputs / 5)
 
-  pub evaluate_leaves : evaluate_fault nodes outputs assignment (length store) (length answers) ≡ Sound → (s o : List ℕ) → s ≡ replicate (length store) 0
+  pub evaluate_leaves : evaluate_fault nodes outputs assignment (length store) (length answers) ≡ Ok tt → (s o : List ℕ) → s ≡ replicate (length store) 0
       → o ≡ evaluated (nodes_in nodes) (wires_in outputs) assignment ++ replicate (length answers - length outputs / 5) 0
-      → evaluated_result (Outputs (length outputs / 5)) s o ≡ evaluate_call nodes outputs assignment store answers
+      → call_result (Ok (length outputs / 5)) s o ≡ evaluate_call nodes outputs assignment store answers
   unfolding evaluate_call
   evaluate_leaves e s o q r =
       leaves_accepted (evaluate_fault nodes outputs assignment (length store) (length answers)) (length outputs / 5) (evaluated (nodes_in nodes) (wires_in outputs) assignment)
       (length store) (length answers) e (length outputs / 5) s o refl q
       (r ∙ ap (λ (k : ℕ). evaluated (nodes_in nodes) (wires_in outputs) assignment ++ replicate (length answers - k) 0) (sym evaluate_length))
 
-  pub evaluate_refused : (x : Refusal) → evaluate_fault nodes outputs assignment (length store) (length answers) ≡ Refused x → (s o : List ℕ) → s ≡ replicate (length store) 0 → o ≡ replicate (length answers) 0
-      → evaluated_result (NotEvaluated x) s o ≡ evaluate_call nodes outputs assignment store answers
+  pub evaluate_refused : (x : Refusal) → evaluate_fault nodes outputs assignment (length store) (length answers) ≡ Err x → (s o : List ℕ) → s ≡ replicate (length store) 0 → o ≡ replicate (length answers) 0
+      → call_result (Err x) s o ≡ evaluate_call nodes outputs assignment store answers
   unfolding evaluate_call
   evaluate_refused x e s o q r =
       leaves_refused (evaluate_fault nodes outputs assignment (length store) (length answers)) (length outputs / 5) (evaluated (nodes_in nodes) (wires_in outputs) assignment)

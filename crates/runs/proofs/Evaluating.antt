@@ -1,9 +1,10 @@
 -- The laws of `evaluate`: a cell's entry, and the two-valued storage order.
 -- Assumes nothing.
+use Rattle.std.specs.Prelude.{Option, Some, None}
 use mathlib.Core.Path.{◌≡◌, refl, sym, ap, ◌∙◌, subst}
 use mathlib.Core.Logic.{inl, inr}
 use mathlib.Core.List.{List, [], ◌∷◌, map}
-use mathlib.Core.Bool.{true, false}
+use mathlib.Core.Bool.{Bool, true, false}
 use Prim.Native.Nat.{ℕ, zero, suc, ◌+◌, ◌*◌, ◌<◌, ◌≤◌}
 use native.Mathlib.Nat.{zero-add}
 use native.Mathlib.Omega.{arith}
@@ -11,7 +12,7 @@ use lib.Dec.{ltb}
 use borrow.Author.Tests.{eq-eqb, ltb-false, leb-false, le-ltb}
 use lib.ListN.{length, get_or}
 use Rattle.laws.specs.Lists.{some}
-use Rattle.laws.proofs.Tests.{neither, clash, false_of}
+use Rattle.laws.proofs.Tests.{neither, clash, false_of, cond-true, cond-false}
 use Rattle.circuit.specs.declared.records.BoolWire.{BoolWire}
 use Rattle.circuit.specs.declared.records.BoolWire.TheVariants.{Const, Node}
 use Rattle.circuit.specs.declared.records.BoolNode.{BoolNode}
@@ -25,7 +26,7 @@ use Rattle.cells.specs.Cells.{entry, index_from}
 use Rattle.cells.proofs.Rule.{entry-bit}
 use Rattle.runs.specs.Values.{signal_value, answer_of, entry_of, outputs_from, storage_values, storage_outputs, evaluated}
 use Rattle.runs.specs.Fit.{Accepted}
-use Rattle.runs.specs.Work.{Next, EntryIs}
+use Rattle.runs.specs.Work.{Next, checked_entry}
 use Rattle.runs.specs.Steps.{Standing}
 use Rattle.runs.proofs.Storage.{Known, wires_below, value_cell, answer_entry, values_known, values_same, evaluate_same}
 use Rattle.runs.proofs.Stepping.{wires_one, wires_two}
@@ -40,34 +41,55 @@ wire_bit s k h (Const true) e = omega arith
 wire_bit s k h (Const false) e = omega arith
 wire_bit s k h (Node n) e = h n.0 (leb-false k n.0 e)
 
+pub entry_small : (s : List ℕ) (n : BoolNode) → entry_of s n < 2
+unfolding entry_of
+entry_small s n = omega (arith, entry-bit n.table (index_from 0 (map (signal_value s) (wires_of n))))
+
 module _ (k : ℕ) (n : BoolNode) (s : List ℕ) where
-  pub entry_broken : true ≡ node_broken k n → EntryIs k n s 2
-  entry_broken e = record { sound = λ h. absurd (omega (arith, h)); entry = λ h. absurd (omega (arith, h)); broken = λ h. sym e }
+  pub entry_broken : true ≡ node_broken k n → ◌≡◌ {A = Option ℕ} None (checked_entry k n s)
+  entry_broken e = rw (sym e)
+
+  -- what an answer tells
+  pub entry_none : ◌≡◌ {A = Option ℕ} None (checked_entry k n s) → node_broken k n ≡ true
+  entry_none e = go (node_broken k n) refl
+    where
+      go : (t : Bool) → node_broken k n ≡ t → node_broken k n ≡ true
+      go true q = q
+      go false q =
+          let f : ◌≡◌ {A = Option ℕ} None (Some (entry_of s n)) = e ∙ cond-false (node_broken k n) None (Some (entry_of s n)) q in
+          let z : ◌≡◌ {A = ℕ} 0 1 = cc in
+          absurd (omega arith)
+
+  pub entry_some : (v : ℕ) → ◌≡◌ {A = Option ℕ} (Some v) (checked_entry k n s) → (node_broken k n ≡ false) × (v ≡ entry_of s n)
+  entry_some v e = go (node_broken k n) refl
+    where
+      go : (t : Bool) → node_broken k n ≡ t → (node_broken k n ≡ false) × (v ≡ entry_of s n)
+      go true q =
+          let f : ◌≡◌ {A = Option ℕ} (Some v) None = e ∙ cond-true (node_broken k n) None (Some (entry_of s n)) q in
+          let z : ◌≡◌ {A = ℕ} 0 1 = cc in
+          absurd (omega arith)
+      go false q =
+          let f : ◌≡◌ {A = Option ℕ} (Some v) (Some (entry_of s n)) = e ∙ cond-false (node_broken k n) None (Some (entry_of s n)) q in
+          (q, cc)
 
   module _ (kind : n.kind ≡ 2) (v : ℕ) (p : v ≡ signal_value s n.first) (f : not_below k n.first ≡ false) where
     cell : is_cell_node n ≡ true
     unfolding is_cell_node
     cell = eq-eqb n.kind 2 kind
 
-    pub entry-one : n.count ≡ 1 → n.table < 4 → (r : ℕ) → r ≡ entry n.table v → EntryIs k n s r
+    pub entry-one : n.count ≡ 1 → n.table < 4 → (r : ℕ) → r ≡ entry n.table v → ◌≡◌ {A = Option ℕ} (Some r) (checked_entry k n s)
     unfolding entry_of index_from
     entry-one one h r q =
         let i : v ≡ 2 * 0 + signal_value s n.first = omega (arith, p) in
-        record {
-          sound = λ l. sym (one_unbroken k n kind one h f);
-          entry = λ l. q ∙ ap (entry n.table) i ∙ ap (λ (ws : List BoolWire). entry n.table (index_from 0 (map (signal_value s) ws))) (sym (wires_one n cell one));
-          broken = λ l. absurd (omega (arith, l, q, entry-bit n.table v));
-        }
+        let e : r ≡ entry_of s n = q ∙ ap (entry n.table) i ∙ ap (λ (ws : List BoolWire). entry n.table (index_from 0 (map (signal_value s) ws))) (sym (wires_one n cell one)) in
+        rw (sym (one_unbroken k n kind one h f)) (ap Some e)
 
-    pub entry_two : n.count ≡ 2 → n.table < 16 → (w : ℕ) → w ≡ signal_value s n.second → not_below k n.second ≡ false → (r : ℕ) → r ≡ entry n.table (2 * v + w) → EntryIs k n s r
+    pub entry_two : n.count ≡ 2 → n.table < 16 → (w : ℕ) → w ≡ signal_value s n.second → not_below k n.second ≡ false → (r : ℕ) → r ≡ entry n.table (2 * v + w) → ◌≡◌ {A = Option ℕ} (Some r) (checked_entry k n s)
     unfolding entry_of index_from
     entry_two two h w q e r g =
         let i : 2 * v + w ≡ 2 * (2 * 0 + signal_value s n.first) + signal_value s n.second = omega (arith, p, q) in
-        record {
-          sound = λ l. sym (two_unbroken k n kind two h f e);
-          entry = λ l. g ∙ ap (entry n.table) i ∙ ap (λ (ws : List BoolWire). entry n.table (index_from 0 (map (signal_value s) ws))) (sym (wires_two n cell (two_rules k n kind two h f) (λ z. omega (arith, two, z))));
-          broken = λ l. absurd (omega (arith, l, g, entry-bit n.table (2 * v + w)));
-        }
+        let x : r ≡ entry_of s n = g ∙ ap (entry n.table) i ∙ ap (λ (ws : List BoolWire). entry n.table (index_from 0 (map (signal_value s) ws))) (sym (wires_two n cell (two_rules k n kind two h f) (λ z. omega (arith, two, z)))) in
+        rw (sym (two_unbroken k n kind two h f e)) (ap Some x)
 
 -- ---- the entry of a cell with one wire more than a number
 
@@ -82,18 +104,18 @@ module _ (nodes : List ℕ) (k more : ℕ) (s : List ℕ) (p : Next nodes k s ×
   abbrev last : ℕ
   last = get_or nodes (k * 9 + 7 + more) 0
 
-  pub table_over : 12 * more + 4 ≤ n.table → EntryIs k n s 2
+  pub table_over : 12 * more + 4 ≤ n.table → ◌≡◌ {A = Option ℕ} None (checked_entry k n s)
   table_over t = entry_broken k n s (over_broken nodes k more p.1 p.2 p.3 t)
 
   module _ (t : n.table < 12 * more + 4) (f : first < k + 2) where
-    pub last_ahead : k + 2 ≤ last → EntryIs k n s 2
+    pub last_ahead : k + 2 ≤ last → ◌≡◌ {A = Option ℕ} None (checked_entry k n s)
     last_ahead l = entry_broken k n s (last_broken nodes k more p.1 p.2 p.3 t f l)
 
     module _ (l : last < k + 2) (v w : ℕ) (a : v ≡ signal_value s (wire_of first)) (b : w ≡ signal_value s (wire_of last)) where
       pub index_small : 2 * (more * v) + w < 4
       index_small = omega (arith, a, b, times_few more v p.3, wire_bit s k p.0.known (wire_of first) (word_behind k first f), wire_bit s k p.0.known (wire_of last) (word_behind k last l))
 
-      pub entry-counted : (r : ℕ) → r ≡ entry n.table (2 * (more * v) + w) → EntryIs k n s r
+      pub entry-counted : (r : ℕ) → r ≡ entry n.table (2 * (more * v) + w) → ◌≡◌ {A = Option ℕ} (Some r) (checked_entry k n s)
       entry-counted r q = go (last_word nodes (k * 9) more p.3)
         where
           index : (m : ℕ) → more ≡ m → r ≡ entry n.table (2 * (m * v) + w)
@@ -102,7 +124,7 @@ module _ (nodes : List ℕ) (k more : ℕ) (s : List ℕ) (p : Next nodes k s ×
           same : (word : ℕ) → last ≡ word → w ≡ signal_value s (wire_of word)
           same word e = b ∙ ap (λ (i : ℕ). signal_value s (wire_of i)) e
 
-          go : LastWord nodes (k * 9) more → EntryIs k n s r
+          go : LastWord nodes (k * 9) more → ◌≡◌ {A = Option ℕ} (Some r) (checked_entry k n s)
           go (inl e) =
               let i : 2 * (0 * v) + w ≡ w = omega arith in
               entry-one k n s p.1 w (same first e.1) (word_behind k first f) (omega (arith, p.2, e.0)) (omega (arith, t, e.0)) r (index 0 e.0 ∙ ap (entry n.table) i)

@@ -1,5 +1,6 @@
 -- The laws of a pass that checks the nodes on its way, and of the calls whose refusal is looked for after their work.
 -- Assumes nothing.
+use Rattle.std.specs.Prelude.{Err, Ok}
 use mathlib.Core.Path.{◌≡◌, refl, sym, ap, ◌∙◌}
 use mathlib.Core.List.{List, [], ◌∷◌}
 use mathlib.Core.Bool.{Bool, true, false, not}
@@ -13,13 +14,12 @@ use Rattle.laws.specs.Lists.{some}
 use Rattle.laws.proofs.Tests.{neither, clash, and-true}
 use Rattle.circuit.specs.declared.refusals.Refusal.{Refusal}
 use Rattle.circuit.specs.declared.refusals.Refusal.TheVariants.{Broken}
-use Rattle.circuit.specs.declared.refusals.Checked.{Checked}
-use Rattle.circuit.specs.declared.refusals.Checked.TheVariants.{Sound, Refused}
+use Rattle.circuit.specs.Refusals.{Checked}
 use Rattle.circuit.specs.declared.records.BoolWire.{BoolWire}
 use Rattle.circuit.specs.declared.records.BoolNode.{BoolNode}
 use Rattle.circuit.specs.Refusals.{refuse_if}
 use Rattle.circuit.specs.Records.{NodeIs, node_at, nodes_of, wires_of}
-use Rattle.circuit.specs.Check.{record_broken, not_below, some_not_below, check_wires, check_nodes, check_circuit, node_broken, whole, nodes_in, wires_in, topological_fault}
+use Rattle.circuit.specs.Check.{record_broken, not_below, some_not_below, check_wires, check_node, check_nodes, check_circuit, node_broken, whole, nodes_in, wires_in, topological_fault}
 use Rattle.circuit.proofs.Checks.{no_fault, not_refused, rest, scan_start, scan_end, scan_passed, below_more, is_whole, topological_whole}
 use Rattle.runs.specs.Runs.{input_count, wrong_assignment}
 use Rattle.runs.specs.Work.{Tells, Prepared, Passing}
@@ -37,9 +37,17 @@ pub denied : {P : Type 0} (r : Bool) → Tells r P → r ≡ false → P → ⊥
 denied true p e = absurd (clash refl e)
 denied false p e = p
 
+pub tell : {P : Type 0} (r : Bool) → (r ≡ true → P) → (r ≡ false → P → ⊥) → Tells r P
+tell true f g = f refl
+tell false f g = g refl
+
+pub deny : {P : Type 0} (r : Bool) → r ≡ false → (P → ⊥) → Tells r P
+deny true e f = absurd (clash refl e)
+deny false e f = f
+
 -- ---- a node on the way
 
-pub refused_apart : (c : Checked) (r : Refusal) → c ≡ Refused r → c ≡ Sound → ⊥
+pub refused_apart : (c : Checked) (r : Refusal) → c ≡ Err r → c ≡ Ok tt → ⊥
 refused_apart c r e q = let z : ◌≡◌ {A = ℕ} 0 1 = cc in omega arith
 
 -- what a node has that breaks no rule and reads below k alone
@@ -47,7 +55,7 @@ pub node_sound : (k : ℕ) (n : BoolNode) → node_broken k n ≡ false → (rec
 unfolding node_broken
 node_sound k n e = neither (record_broken n) (some_not_below k (wires_of n)) e
 
-wires_earlier : (m k : ℕ) → k ≤ m → (ws : List BoolWire) → some_not_below k ws ≡ false → check_wires m k ws ≡ Sound
+wires_earlier : (m k : ℕ) → k ≤ m → (ws : List BoolWire) → some_not_below k ws ≡ false → check_wires m k ws ≡ Ok tt
 unfolding check_wires
 wires_earlier m k h [] e = refl
 wires_earlier m k h (w ∷ ws) e =
@@ -61,11 +69,15 @@ module _ (nodes : List ℕ) (m k : ℕ) (h : k < m) where
   e : NodeIs nodes (k * 9) (node_at nodes k)
   e = node_at_is nodes k
 
+  checked_node : record_broken n ≡ false → check_wires m k (wires_of n) ≡ Ok tt → check_node m k n ≡ Ok tt
+  unfolding check_node
+  checked_node r q = rw (r, q)
+
   scan_on : node_broken k n ≡ false → rest nodes m k ≡ rest nodes m (k + 1)
-  scan_on q = let g = node_sound k n q in scan_passed nodes m k h n e g.0 (wires_earlier m k (omega arith) (wires_of n) g.1)
+  scan_on q = let g = node_sound k n q in scan_passed nodes m k h n e (checked_node g.0 (wires_earlier m k (omega arith) (wires_of n) g.1))
 
 -- nodes of which none fails pass the check
-pub each-sound : (nodes : List ℕ) (m : ℕ) → ((k : ℕ) → k < m → node_broken k (node_at nodes k) ≡ false) → check_nodes m 0 (nodes_of nodes m) ≡ Sound
+pub each-sound : (nodes : List ℕ) (m : ℕ) → ((k : ℕ) → k < m → node_broken k (node_at nodes k) ≡ false) → check_nodes m 0 (nodes_of nodes m) ≡ Ok tt
 each-sound nodes m h = scan_start nodes m ∙ along m (omega arith) ∙ scan_end nodes m m (omega arith)
   where
     along : (j : ℕ) → j ≤ m → rest nodes m 0 ≡ rest nodes m j
@@ -76,24 +88,28 @@ each-sound nodes m h = scan_start nodes m ∙ along m (omega arith) ∙ scan_end
 
 -- what a prepared call and nodes that pass make of the circuit check and of 19
 module _ (top : ℕ) (nodes outputs assignment : List ℕ) (store answers : ℕ) (a : Prepared top nodes outputs assignment store answers) (b : Passing nodes (length nodes / 9) assignment) where
-  pub passing_checked : topological_fault nodes outputs ≡ Sound
+  pub passing_checked : topological_fault nodes outputs ≡ Ok tt
   passing_checked = topological_whole nodes outputs (is_whole nodes outputs a.whole_nodes a.whole_outputs) ∙ rw (b.accepted, a.wired)
 
   pub passing_assigned : wrong_assignment top (nodes_in nodes) assignment ≡ false
   passing_assigned = sym (right_length top (nodes_in nodes) assignment b.inputs) ∙ a.values
 
-  pub passing_room : room_fault nodes outputs store answers ≡ Sound
+  pub passing_room : room_fault nodes outputs store answers ≡ Ok tt
   passing_room = sym (has_room nodes outputs store answers a.store_room a.answers_room)
 
 -- and back
-whole_of : (nodes outputs : List ℕ) → topological_fault nodes outputs ≡ Sound → (length nodes % 9 ≡ 0) × (length outputs % 5 ≡ 0)
-unfolding topological_fault whole
-whole_of nodes outputs e =
-    let w = not-false (whole nodes outputs) (not_refused _ Broken (no_fault (refuse_if (not (whole nodes outputs)) Broken) (check_circuit (nodes_in nodes) (wires_in outputs)) e).0) in
+pub wholes : (nodes outputs : List ℕ) → whole nodes outputs ≡ true → (length nodes % 9 ≡ 0) × (length outputs % 5 ≡ 0)
+unfolding whole
+wholes nodes outputs w =
     let g = and-true (eqb (length nodes % 9) 0) (eqb (length outputs % 5) 0) w in
     (eqb-true (length nodes % 9) 0 g.0, eqb-true (length outputs % 5) 0 g.1)
 
-module _ (top : ℕ) (nodes outputs assignment : List ℕ) (store answers : ℕ) (e : topological_fault nodes outputs ≡ Sound) where
+whole_of : (nodes outputs : List ℕ) → topological_fault nodes outputs ≡ Ok tt → (length nodes % 9 ≡ 0) × (length outputs % 5 ≡ 0)
+unfolding topological_fault
+whole_of nodes outputs e =
+    wholes nodes outputs (not-false (whole nodes outputs) (not_refused _ Broken (no_fault (refuse_if (not (whole nodes outputs)) Broken) (check_circuit (nodes_in nodes) (wires_in outputs)) e).0))
+
+module _ (top : ℕ) (nodes outputs assignment : List ℕ) (store answers : ℕ) (e : topological_fault nodes outputs ≡ Ok tt) where
   pub prepared_of : some (ltb top) assignment ≡ false → Room nodes outputs store answers → Prepared top nodes outputs assignment store answers
   prepared_of v r =
       let g = whole_of nodes outputs e in
@@ -111,13 +127,13 @@ module _ (top : ℕ) (nodes outputs assignment : List ℕ) (store answers : ℕ)
 
 -- `evaluate` refuses just where a call is not prepared or the nodes do not pass
 module _ (nodes outputs assignment : List ℕ) (store answers : ℕ) where
-  pub evaluate_sound : Prepared 1 nodes outputs assignment store answers → Passing nodes (length nodes / 9) assignment → evaluate_fault nodes outputs assignment store answers ≡ Sound
+  pub evaluate_sound : Prepared 1 nodes outputs assignment store answers → Passing nodes (length nodes / 9) assignment → evaluate_fault nodes outputs assignment store answers ≡ Ok tt
   evaluate_sound a b =
       sym (evaluate_assigned nodes outputs assignment store answers (passing_checked 1 nodes outputs assignment store answers a b) (passing_assigned 1 nodes outputs assignment store answers a b))
       ∙ passing_room 1 nodes outputs assignment store answers a b
 
-  pub evaluate_prepared : evaluate_fault nodes outputs assignment store answers ≡ Sound → Prepared 1 nodes outputs assignment store answers
+  pub evaluate_prepared : evaluate_fault nodes outputs assignment store answers ≡ Ok tt → Prepared 1 nodes outputs assignment store answers
   evaluate_prepared e = let r = evaluates_of nodes outputs assignment store answers e in prepared_of 1 nodes outputs assignment store answers r.checks r.bits r.room
 
-  pub evaluate_passing : evaluate_fault nodes outputs assignment store answers ≡ Sound → Passing nodes (length nodes / 9) assignment
+  pub evaluate_passing : evaluate_fault nodes outputs assignment store answers ≡ Ok tt → Passing nodes (length nodes / 9) assignment
   evaluate_passing e = let r = evaluates_of nodes outputs assignment store answers e in passing_of 1 nodes outputs assignment store answers r.checks r.inputs

@@ -147,8 +147,8 @@ module _ (nodes : List ℕ) (count : ℕ) (assignment before : List ℕ) where
     pub put_whole : length assignment ≤ p → Passing nodes count assignment → s ≡ put_in assignment 0 0 before (nodes_of nodes count)
     put_whole l b = let g = w.passing b in sym (g.0 ∙ put_none assignment (from nodes count k) p k s (omega (arith, g.1, l)))
 
-    pub put_short : count ≤ k → p < length assignment → Passing nodes count assignment → ⊥
+    pub put_done : count ≤ k → Passing nodes count assignment → length assignment ≤ p
     unfolding input_count
-    put_short h l b =
+    put_done h b =
         let z : input_count (from nodes count k) ≡ input_count [] = ap input_count (from_end nodes count k h) in
-        omega (arith, (w.passing b).1, z, l)
+        omega (arith, (w.passing b).1, z)

@@ -1,5 +1,6 @@
 -- The laws of the run whose refusal is looked for after its work: when it refuses, and that its store gives the outputs.
 -- Assumes nothing.
+use Rattle.std.specs.Prelude.{Ok}
 use mathlib.Core.Path.{◌≡◌, refl, sym, ap, ◌∙◌, subst}
 use mathlib.Core.List.{List, []}
 use mathlib.Core.Bool.{Bool, true, false, not, false≢true}
@@ -10,7 +11,6 @@ use lib.ListN.{length, get_or, replicate, length-replicate, get_or-replicate}
 use Rattle.laws.specs.Lists.{some}
 use Rattle.laws.proofs.Tests.{and-true}
 use Rattle.circuit.specs.declared.refusals.Refusal.TheVariants.{Broken}
-use Rattle.circuit.specs.declared.refusals.Checked.TheVariants.{Sound}
 use Rattle.circuit.specs.Refusals.{refuse_if}
 use Rattle.circuit.specs.Records.{nodes_of}
 use Rattle.circuit.specs.Check.{check_circuit, whole, nodes_in, wires_in, topological_fault}
@@ -31,7 +31,7 @@ use Rattle.runs.proofs.Standing.{standing_outputs}
 use Rattle.runs.proofs.Through.{through_tells}
 use Rattle.runs.proofs.Walked.{walked_end}
 
-circuit_of : (nodes outputs : List ℕ) → topological_fault nodes outputs ≡ Sound → Sounds (nodes_in nodes) (wires_in outputs)
+circuit_of : (nodes outputs : List ℕ) → topological_fault nodes outputs ≡ Ok tt → Sounds (nodes_in nodes) (wires_in outputs)
 unfolding topological_fault
 circuit_of nodes outputs e = circuit-sound (nodes_in nodes) (wires_in outputs) (no_fault (refuse_if (not (whole nodes outputs)) Broken) (check_circuit (nodes_in nodes) (wires_in outputs)) e).1
 
@@ -80,7 +80,7 @@ module _ (nodes outputs order assignment : List ℕ) (store answers : ℕ) where
     fits : fit_list (graph_of (nodes_in nodes)) order ≡ true
     fits = sym (list_fit nodes (length nodes / 9) (length assignment) order b.inputs (omega (arith, l))) ∙ f
 
-    pub run_sound : run_fault nodes outputs order assignment store answers ≡ Sound
+    pub run_sound : run_fault nodes outputs order assignment store answers ≡ Ok tt
     run_sound =
         sym (run-fit nodes outputs order assignment store answers (passing_checked 2 nodes outputs assignment store answers a b) (passing_assigned 2 nodes outputs assignment store answers a b) fits)
         ∙ passing_room 2 nodes outputs assignment store answers a b
@@ -92,7 +92,7 @@ module _ (nodes outputs order assignment : List ℕ) (store answers : ℕ) where
         standing_outputs (nodes_in nodes) (wires_in outputs) assignment order values st fits sound.outputs
         ∙ sym (along (nodes_in nodes) (wires_in outputs) assignment sound order old (omega (arith, h, length_nodes nodes (length nodes / 9))) fits)
 
-  module _ (e : run_fault nodes outputs order assignment store answers ≡ Sound) where
+  module _ (e : run_fault nodes outputs order assignment store answers ≡ Ok tt) where
     pub run_prepared : Prepared 2 nodes outputs assignment store answers
     run_prepared = let r = runs_of nodes outputs order assignment store answers e in prepared_of 2 nodes outputs assignment store answers r.checks r.values r.room
 

@@ -1,18 +1,10 @@
 -- The exported calls: of each, the first refusal, and one definition of its answer and of the exit contents of every area.
 -- Assumes nothing.
-use Rattle.std.specs.Prelude.{List, ◌++◌, not, ◌||◌, ℕ, ◌-◌, ◌/◌, ◌^◌, ltb, length, replicate}
+use Rattle.std.specs.Prelude.{List, ◌++◌, not, ◌||◌, ℕ, ◌-◌, ◌/◌, ◌^◌, ltb, length, replicate, Err, Ok}
 use Rattle.circuit.specs.declared.refusals.Refusal.TheVariants.{NoRoom, WrongValues, UnfitOrder, TooManyInputs}
-use Rattle.circuit.specs.declared.refusals.Checked.{Checked}
-use Rattle.circuit.specs.declared.refusals.Checked.TheVariants.{Sound, Refused}
-use Rattle.circuit.specs.Refusals.{number_of, refuse_if, first_fault}
+use Rattle.circuit.specs.Refusals.{number_of, Try, Checked, refuse_if, first_fault}
 use Rattle.circuit.specs.Check.{nodes_in, wires_in, topological_fault, records_fault}
 use Rattle.circuit.specs.Graph.{graph_of, cells_of, fit_list}
-use Rattle.runs.specs.declared.run.Ran.{Ran}
-use Rattle.runs.specs.declared.run.Ran.TheVariants.{Cells, Refused as NotRun}
-use Rattle.runs.specs.declared.evaluate.Evaluated.{Evaluated}
-use Rattle.runs.specs.declared.evaluate.Evaluated.TheVariants.{Outputs, Refused as NotEvaluated}
-use Rattle.runs.specs.declared.numbered.Numbered.{Numbered}
-use Rattle.runs.specs.declared.numbered.Numbered.TheVariants.{Inputs, Refused as NotNumbered}
 use Rattle.runs.specs.Values.{evaluated}
 use Rattle.runs.specs.Runs.{run_outputs, input_count, wrong_assignment, numbered}
 
@@ -59,9 +51,9 @@ pub record Result : Type 0 where
 
 -- "A refusal returns its number, any other result 0, and zeros every area lent for writing"; the value store is "zero after any call"
 unfoldable pub leaves : Checked → ℕ → List ℕ → ℕ → ℕ → Result
-leaves Sound count outputs store answers =
+leaves (Ok u) count outputs store answers =
     record { number = 0; count = count; store = replicate store 0; outputs = outputs ++ replicate (answers - length outputs) 0 }
-leaves (Refused e) count outputs store answers =
+leaves (Err e) count outputs store answers =
     record { number = number_of e; count = 0; store = replicate store 0; outputs = replicate answers 0 }
 
 -- "The run returns how many cells it worked out: their number in the circuit"
@@ -77,13 +69,9 @@ evaluate_call nodes outputs assignment store answers =
     (length store) (length answers)
 
 -- the number and the count of each case of an answer, with what the areas then hold
-abbrev pub ran_result : Ran → List ℕ → List ℕ → Result
-ran_result (Cells n) store outputs = record { number = 0; count = n; store = store; outputs = outputs }
-ran_result (NotRun e) store outputs = record { number = number_of e; count = 0; store = store; outputs = outputs }
-
-abbrev pub evaluated_result : Evaluated → List ℕ → List ℕ → Result
-evaluated_result (Outputs n) store outputs = record { number = 0; count = n; store = store; outputs = outputs }
-evaluated_result (NotEvaluated e) store outputs = record { number = number_of e; count = 0; store = store; outputs = outputs }
+abbrev pub call_result : Try ℕ → List ℕ → List ℕ → Result
+call_result (Ok n) store outputs = record { number = 0; count = n; store = store; outputs = outputs }
+call_result (Err e) store outputs = record { number = number_of e; count = 0; store = store; outputs = outputs }
 
 -- ---- numbered assignments
 
@@ -94,13 +82,14 @@ pub record Assigned : Type 0 where
   pub assignment : List ℕ
 
 unfoldable pub assigns : Checked → ℕ → ℕ → ℕ → Assigned
-assigns Sound n a size = record { number = 0; count = n; assignment = numbered n a ++ replicate (size - n) 0 }
-assigns (Refused e) n a size = record { number = number_of e; count = 0; assignment = replicate size 0 }
+assigns (Ok u) n a size = record { number = 0; count = n; assignment = numbered n a ++ replicate (size - n) 0 }
+assigns (Err e) n a size = record { number = number_of e; count = 0; assignment = replicate size 0 }
 
 -- `exhaustive_inputs`, one numbered assignment a call
 unfoldable pub exhaustive_call : List ℕ → List ℕ → ℕ → List ℕ → Assigned
 exhaustive_call nodes outputs a assignment = assigns (exhaustive_fault nodes outputs a (length assignment)) (input_count (nodes_in nodes)) a (length assignment)
 
-abbrev pub numbered_result : Numbered → List ℕ → Assigned
-numbered_result (Inputs n) assignment = record { number = 0; count = n; assignment = assignment }
-numbered_result (NotNumbered e) assignment = record { number = number_of e; count = 0; assignment = assignment }
+-- the same of a numbered assignment
+abbrev pub numbered_result : Try ℕ → List ℕ → Assigned
+numbered_result (Ok n) assignment = record { number = 0; count = n; assignment = assignment }
+numbered_result (Err e) assignment = record { number = number_of e; count = 0; assignment = assignment }

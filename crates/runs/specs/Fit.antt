@@ -1,9 +1,8 @@
 -- Fitness of an order list, looked at for the nodes of one block at a time, by a bit for each of them.
 -- Assumes nothing.
-use Rattle.std.specs.Prelude.{◌≡◌, List, [], ◌∷◌, ◌++◌, Bool, true, false, cond, not, ◌&&◌, ℕ, ◌+◌, ◌-◌, ◌*◌, ◌/◌, ◌%◌, ◌<◌, ◌≤◌, eqb, leb, ltb, length, get_or}
+use Rattle.std.specs.Prelude.{◌≡◌, List, [], ◌∷◌, ◌++◌, Bool, true, false, cond, not, ◌&&◌, ℕ, ◌+◌, ◌-◌, ◌*◌, ◌/◌, ◌%◌, ◌<◌, ◌≤◌, eqb, leb, ltb, length, get_or, Ok}
 use Rattle.laws.specs.Bits.{bit}
 use Rattle.laws.specs.Lists.{elem, some}
-use Rattle.circuit.specs.declared.refusals.Checked.TheVariants.{Sound}
 use Rattle.circuit.specs.declared.records.BoolWire.{BoolWire}
 use Rattle.circuit.specs.declared.records.BoolWire.TheVariants.{Const, Node}
 use Rattle.circuit.specs.Records.{nodes_of}
@@ -52,7 +51,7 @@ some_waits nodes lo marks ws = some (wire_waits nodes lo marks) ws
 -- nodes that the circuit check accepts
 pub record Accepted (nodes : List ℕ) (count : ℕ) : Type 0 where
   pub room : count * 9 ≤ length nodes
-  pub accepted : check_nodes count 0 (nodes_of nodes count) ≡ Sound
+  pub accepted : check_nodes count 0 (nodes_of nodes count) ≡ Ok tt
 
 -- what marking a number gives, whatever was taken before
 abbrev pub Marking : ℕ → List ℕ → ℕ → Bool → List ℕ → Type 0

@@ -1,12 +1,10 @@
 -- What the inner functions of a run need of the areas, and what they leave in them. A cell that waits to be worked out is marked by a value above 2.
 -- Assumes nothing.
-use Rattle.std.specs.Prelude.{◌≡◌, List, Bool, true, false, cond, ℕ, zero, suc, ◌+◌, ◌*◌, ◌/◌, ◌%◌, ◌<◌, ◌≤◌, eqb, ltb, length, get_or, set}
+use Rattle.std.specs.Prelude.{◌≡◌, List, Bool, true, false, cond, ℕ, zero, suc, ◌+◌, ◌*◌, ◌/◌, ◌%◌, ◌<◌, ◌≤◌, eqb, ltb, length, get_or, set, Option, Some, None, Ok}
 use Rattle.laws.specs.Lists.{some}
-use Rattle.circuit.specs.declared.refusals.Refusal.TheVariants.{Broken}
-use Rattle.circuit.specs.declared.refusals.Checked.TheVariants.{Sound, Refused}
 use Rattle.circuit.specs.declared.records.BoolNode.{BoolNode}
 use Rattle.circuit.specs.Records.{node_at, nodes_of, is_cell_node}
-use Rattle.circuit.specs.Check.{some_not_below, check_nodes, node_broken, nodes_in, wires_in, records_fault}
+use Rattle.circuit.specs.Check.{some_not_below, check_nodes, node_broken, wires_in}
 use Rattle.runs.specs.Values.{entry_of}
 use Rattle.runs.specs.Runs.{input_count}
 
@@ -26,7 +24,7 @@ pub record Prepared (top : ℕ) (nodes outputs assignment : List ℕ) (store ans
 
 -- nodes that the circuit check accepts, with as many inputs as the assignment has values
 pub record Passing (nodes : List ℕ) (count : ℕ) (assignment : List ℕ) : Type 0 where
-  pub accepted : check_nodes count 0 (nodes_of nodes count) ≡ Sound
+  pub accepted : check_nodes count 0 (nodes_of nodes count) ≡ Ok tt
   pub inputs : length assignment ≡ input_count (nodes_of nodes count)
 
 -- how many of the first n values are marks
@@ -78,11 +76,9 @@ pub record Next (nodes : List ℕ) (k : ℕ) (values : List ℕ) : Type 0 where
   pub stored : k < length values
   pub known : (i : ℕ) → i < k → get_or values i 0 < 2
 
--- a number below 2 is the entry of a cell that breaks no rule and reads earlier nodes alone; any other tells that it does not
-pub record EntryIs (k : ℕ) (n : BoolNode) (values : List ℕ) (r : ℕ) : Type 0 where
-  pub sound : r < 2 → node_broken k n ≡ false
-  pub entry : r < 2 → r ≡ entry_of values n
-  pub broken : 2 ≤ r → node_broken k n ≡ true
+-- the entry of a cell that breaks no rule and reads earlier nodes alone; none of any other
+abbrev pub checked_entry : ℕ → BoolNode → List ℕ → Option ℕ
+checked_entry k n values = cond (node_broken k n) None (Some (entry_of values n))
 
 -- node k is such a cell, or has its value
 pub record Settled (nodes : List ℕ) (k : ℕ) (values : List ℕ) : Type 0 where
@@ -93,10 +89,3 @@ pub record Settled (nodes : List ℕ) (k : ℕ) (values : List ℕ) : Type 0 whe
 pub record Valued (nodes : List ℕ) (k : ℕ) (values after : List ℕ) : Type 0 where
   pub value : after ≡ cond (is_cell_node (node_at nodes k)) (set values k (entry_of values (node_at nodes k))) values
   pub known : get_or after k 0 < 2
-
--- ---- numbered assignments
-
--- a number up to the node count is that of the inputs of records that break no rule (15); a greater one tells that one does
-pub record Counts (nodes outputs : List ℕ) (n : ℕ) : Type 0 where
-  pub sound : n ≤ length nodes / 9 → (records_fault nodes outputs ≡ Sound) × (n ≡ input_count (nodes_in nodes))
-  pub broken : length nodes / 9 < n → records_fault nodes outputs ≡ Refused Broken

@@ -3,6 +3,8 @@
 ghost use Rattle.std.specs.Prelude.{◌≡◌, true, false, ℕ, ◌+◌, ◌-◌, ◌*◌, ◌^◌, ◌<◌, ◌≤◌, ltb, length, get_or};
 ghost use Rattle.circuit.specs.Records.{node_at};
 
+use crate::step::Walk;
+
 // How many wires a cell has is likely guessed right by a processor: few cells it learns in earlier calls, and of many, 32 that stand evenly apart have not one wire.
 pub fn counts_guessed(nodes: &[usize], count: usize) -> bool
     requires { count * 9 ≤ length nodes.now }
@@ -11,13 +13,10 @@ pub fn counts_guessed(nodes: &[usize], count: usize) -> bool
     if count <= 4096 {
         return true;
     }
-    let apart = count / 32;
-    let mut k = 0;
-    while k < count {
+    for k in (0..count).step_by(count / 32) {
         if nodes[k * 9 + 1] == 1 {
             return false;
         }
-        k += apart;
     }
     true
 }
@@ -33,24 +32,14 @@ pub fn many(count: usize) -> bool
 pub fn longest(count: usize) -> usize
     ensures { 0 < result }
 {
-    if many(count) {
-        return 2048;
-    }
-    256
+    if many(count) { 2048 } else { 256 }
 }
 
 // How many entries a stretch has that starts at a place of a list: 16 at first, then as many as were passed, up to the most.
 pub fn stretch_size(from: usize, count: usize) -> usize
     ensures { 0 < result }
 {
-    if from <= 16 {
-        return 16;
-    }
-    let most = longest(count);
-    if most <= from {
-        return most;
-    }
-    from
+    from.max(16).min(longest(count))
 }
 
 // Where it ends, in a list of so many entries.
@@ -58,21 +47,14 @@ pub fn stretch_end(from: usize, entries: usize, count: usize) -> usize
     requires { from ≤ entries }
     ensures { (from ≤ result) × (result ≤ entries) × (from < entries → from < result) }
 {
-    let size = stretch_size(from, count);
-    if entries - from <= size {
-        return entries;
-    }
-    from + size
+    from + stretch_size(from, count).min(entries - from)
 }
 
 // How many nodes need no look ahead at first.
 pub fn first_lead(count: usize) -> usize
     ensures { result ≤ count }
 {
-    if many(count) {
-        return 0;
-    }
-    count
+    if many(count) { 0 } else { count }
 }
 
 // The lead, or a number past node x if that is greater.
@@ -80,13 +62,7 @@ pub fn further(lead: usize, x: usize, count: usize) -> usize
     requires { lead ≤ count }
     ensures { result ≤ count }
 {
-    if x < lead {
-        return lead;
-    }
-    if x < count {
-        return x + 1;
-    }
-    lead
+    if x < count { lead.max(x + 1) } else { lead }
 }
 
 // A number past the nodes that a stretch names, by a look at one entry of eight; the lead where that is greater.
@@ -95,8 +71,8 @@ pub fn front(order: &[usize], from: usize, end: usize, count: usize, lead: usize
     ensures { result ≤ count }
 {
     let mut top = lead;
-    for i in 0..(end - from) / 8 {
-        top = further(top, order[from + 8 * i], count);
+    for i in (from..end).step_by(8) {
+        top = further(top, order[i], count);
     }
     top
 }
@@ -120,33 +96,26 @@ pub fn in_sequence(order: &[usize], from: usize, end: usize) -> bool
 {
     let first = order[from];
     let last = order[end - 1];
-    if last < first {
-        return false;
-    }
-    last - first == end - 1 - from
+    first <= last && last - first == end - 1 - from
 }
 
-// The number of nodes looked at once those that a stretch reaches are; all where one of them has words of no circuit, so that no more is looked at.
-pub fn look_ahead(
-    nodes: &[usize],
-    count: usize,
-    order: &[usize],
-    from: usize,
-    end: usize,
-    lead: usize,
-) -> usize
-    requires { (count * 9 ≤ length nodes.now) × (from < end) × (end ≤ length order.now) × (lead ≤ count) }
-    ensures { result ≤ count }
-{
-    if lead == count {
-        return count;
+impl<'a> Walk<'a> {
+    // The number of nodes looked at once those that a stretch reaches are; all where one of them has words of no circuit, so that no more is looked at.
+    pub fn look_ahead(&self, from: usize, end: usize, lead: usize) -> usize
+        requires { (self.now.count * 9 ≤ length self.now.nodes.now) × (from < end) × (end ≤ length self.now.order.now) × (lead ≤ self.now.count) }
+        ensures { result ≤ self.now.count }
+    {
+        if lead == self.count {
+            return self.count;
+        }
+        if in_sequence(self.order, from, end) {
+            return further(lead, self.order[end - 1], self.count);
+        }
+        let top = front(self.order, from, end, self.count, lead);
+        if words_small(self.nodes, lead, top) {
+            top
+        } else {
+            self.count
+        }
     }
-    if in_sequence(order, from, end) {
-        return further(lead, order[end - 1], count);
-    }
-    let top = front(order, from, end, count, lead);
-    if words_small(nodes, lead, top) {
-        return top;
-    }
-    count
 }

@@ -1,4 +1,5 @@
 // The place of a cell's answer in the table of answers, which a record that breaks a rule or reads a cell that waits has not.
+// It is a number and no `Option`: the mark of a cell that waits carries the sum past the table, so that one comparison in the step tells of both.
 ghost use Rattle.std.specs.Prelude.{◌≡◌, ◌+◌, ◌*◌, ◌<◌, ◌≤◌, length};
 ghost use Rattle.circuit.specs.Records.{node_at};
 ghost use Rattle.runs.specs.Work.{Graded, BothEarlier};
@@ -31,10 +32,7 @@ pub fn two_wire_place(nodes: &[usize], x: usize, values: &[u8]) -> usize
     if both_earlier(nodes, x) {
         return plain_place(nodes, x, values);
     }
-    if x + 2 <= nodes[at + 7] {
-        return 144;
-    }
-    if x + 2 <= nodes[at + 8] {
+    if x + 2 <= nodes[at + 7] || x + 2 <= nodes[at + 8] {
         return 144;
     }
     let a = wire_value(nodes[at + 7], values);
@@ -49,10 +47,7 @@ pub fn one_wire_place(nodes: &[usize], x: usize, values: &[u8]) -> usize
 {
     let at = x * 9;
     let table = nodes[at + 2];
-    if 4 <= table {
-        return 144;
-    }
-    if x + 2 <= nodes[at + 7] {
+    if 4 <= table || x + 2 <= nodes[at + 7] {
         return 144;
     }
     9 * table + wire_value(nodes[at + 7], values)
@@ -64,15 +59,11 @@ pub fn branched_place(nodes: &[usize], x: usize, values: &[u8]) -> usize
     ensures { PlaceOf x (node_at nodes.now x) values.now result }
 {
     let at = x * 9;
-    if nodes[at] == 2 {
-        if nodes[at + 1] == 2 {
-            return two_wire_place(nodes, x, values);
-        }
-        if nodes[at + 1] == 1 {
-            return one_wire_place(nodes, x, values);
-        }
+    match (nodes[at], nodes[at + 1]) {
+        (2, 2) => two_wire_place(nodes, x, values),
+        (2, 1) => one_wire_place(nodes, x, values),
+        _ => 144,
     }
-    144
 }
 
 // The place of the answer of cell x with one wire more than the number given, 0 or 1.
@@ -89,17 +80,12 @@ pub fn counted_place(nodes: &[usize], x: usize, more: usize, values: &[u8]) -> u
     }
     let first = nodes[at + 7];
     let last = nodes[at + 7 + more];
-    if earlier_node(first, x) {
-        if earlier_node(last, x) {
-            let a = node_value(first, values);
-            let b = node_value(last, values);
-            return 9 * table + 3 * (more * a) + b;
-        }
+    if earlier_node(first, x) && earlier_node(last, x) {
+        let a = node_value(first, values);
+        let b = node_value(last, values);
+        return 9 * table + 3 * (more * a) + b;
     }
-    if x + 2 <= first {
-        return 144;
-    }
-    if x + 2 <= last {
+    if x + 2 <= first || x + 2 <= last {
         return 144;
     }
     let a = wire_value(first, values);
@@ -127,7 +113,8 @@ pub fn answer_place(nodes: &[usize], x: usize, guessed: bool, values: &[u8]) -> 
     ensures { PlaceOf x (node_at nodes.now x) values.now result }
 {
     if guessed {
-        return branched_place(nodes, x, values);
+        branched_place(nodes, x, values)
+    } else {
+        unbranched_place(nodes, x, values)
     }
-    unbranched_place(nodes, x, values)
 }

@@ -7,7 +7,6 @@ ghost use Rattle.runs.specs.Runs.{input_count};
 ghost use Rattle.runs.specs.Fit.{within, block_size, fit_in, Marks, waits_here, wire_waits, some_waits, Accepted, Marking, Entering};
 
 use cells::{set_table_entry, table_entry};
-use circuit::areas::clear;
 use circuit::records::{BoolNode, BoolWire, node_at, wire_at, wire_count};
 
 // The node is a cell of the block from lo on with no mark.
@@ -23,10 +22,7 @@ pub fn waits_here(nodes: &[usize], k: usize, lo: usize, marks: &[usize]) -> bool
     if marks.len() <= w {
         return false;
     }
-    if table_entry(marks[w], i % 64) == 0 {
-        return nodes[k * 9] == 2;
-    }
-    false
+    table_entry(marks[w], i % 64) == 0 && nodes[k * 9] == 2
 }
 
 // The wire is of such a node.
@@ -36,10 +32,7 @@ pub fn wire_waits(nodes: &[usize], count: usize, w: BoolWire, lo: usize, marks: 
 {
     match w {
         BoolWire::Const(_) => false,
-        BoolWire::Node(n) => {
-            let k = n.0;
-            waits_here(nodes, k, lo, marks)
-        }
+        BoolWire::Node(n) => waits_here(nodes, n.0, lo, marks),
     }
 }
 
@@ -48,8 +41,7 @@ pub fn some_waits(nodes: &[usize], count: usize, n: BoolNode, lo: usize, marks: 
     requires { (count * 9 ≤ length nodes.now) × (some_not_below count (wires_of n) ≡ false) }
     ensures { result ≡ some_waits nodes.now lo marks.now (wires_of n) }
 {
-    let wires = wire_count(n);
-    for k in 0..wires {
+    for k in 0..wire_count(n) {
         let w = wire_at(n, k);
         if wire_waits(nodes, count, w, lo, marks) {
             return true;
@@ -71,11 +63,11 @@ pub fn mark(x: usize, lo: usize, marks: &mut [usize]) -> bool
         return true;
     }
     let j = i % 64;
-    if table_entry(marks[w], j) == 0 {
-        marks[w] = set_table_entry(marks[w], j, 1);
-        return true;
+    if table_entry(marks[w], j) != 0 {
+        return false;
     }
-    false
+    marks[w] = set_table_entry(marks[w], j, 1);
+    true
 }
 
 // One entry: it may stand here, as far as the block tells, and is marked.
@@ -87,13 +79,10 @@ pub fn fit_entry(nodes: &[usize], count: usize, x: usize, lo: usize, marks: &mut
         return false;
     }
     let n = node_at(nodes, x);
-    if n.kind == 2 {
-        if some_waits(nodes, count, n, lo, marks) {
-            return false;
-        }
-        return mark(x, lo, marks);
+    if n.kind != 2 || some_waits(nodes, count, n, lo, marks) {
+        return false;
     }
-    false
+    mark(x, lo, marks)
 }
 
 // One pass over the list for the block.
@@ -107,8 +96,8 @@ pub fn fit_pass(
     requires { Accepted nodes.now count × Marks lo marks.old [] }
     ensures { result ≡ fit_in (within lo (block_size marks.old)) (graph_of (nodes_of nodes.now count)) [] order.now }
 {
-    for i in 0..order.len() {
-        if fit_entry(nodes, count, order[i], lo, marks) {} else {
+    for x in order {
+        if !fit_entry(nodes, count, *x, lo, marks) {
             return false;
         }
     }
@@ -125,7 +114,7 @@ pub fn fit_block(
     requires { Accepted nodes.now count }
     ensures { result ≡ fit_in (within lo (block_size marks.old)) (graph_of (nodes_of nodes.now count)) [] order.now }
 {
-    clear(marks);
+    marks.fill(0);
     fit_pass(nodes, count, order, lo, marks)
 }
 
@@ -135,37 +124,33 @@ pub fn fit_blocks(nodes: &[usize], count: usize, order: &[usize], marks: &mut [u
     ensures { result ≡ fit (graph_of (nodes_of nodes.now count)) [] order.now }
 {
     let size = marks.len() * 64;
-    let mut lo = 0;
-    while lo < count {
-        if fit_block(nodes, count, order, lo, marks) {} else {
+    for lo in (0..count).step_by(size) {
+        if !fit_block(nodes, count, order, lo, marks) {
             return false;
         }
-        lo += size;
     }
     true
 }
 
-// A mark for each of 4,096 nodes.
-fn few_marks() -> [usize; 64] {
-    [0; 64]
+// By so many words of marks, 64 nodes each.
+fn fit_by<const N: usize>(nodes: &[usize], count: usize, order: &[usize]) -> bool
+    requires { Accepted nodes.now count × (length order.now ≤ count) × (0 < N) × (N ≤ 16384) }
+    ensures { result ≡ fit (graph_of (nodes_of nodes.now count)) [] order.now }
+{
+    let mut marks = [0; N];
+    fit_blocks(nodes, count, order, &mut marks)
 }
 
-// A mark for each of 131,072 nodes: eight passes for the most that a reader makes, and a small place on the stack.
-fn many_marks() -> [usize; 2048] {
-    [0; 2048]
-}
-
-// A small circuit has small marks.
+// A small circuit of up to 4,096 nodes has small marks, any other marks for 131,072: eight passes for the most that a reader makes, and a small place on the stack.
 pub fn fit_marked(nodes: &[usize], count: usize, order: &[usize]) -> bool
     requires { Accepted nodes.now count × (length order.now ≤ count) }
     ensures { result ≡ fit (graph_of (nodes_of nodes.now count)) [] order.now }
 {
     if count <= 4096 {
-        let mut marks = few_marks();
-        return fit_blocks(nodes, count, order, &mut marks);
+        fit_by::<64>(nodes, count, order)
+    } else {
+        fit_by::<2048>(nodes, count, order)
     }
-    let mut marks = many_marks();
-    fit_blocks(nodes, count, order, &mut marks)
 }
 
 // The list has each cell once, after those it reads. The circuit has so many inputs.
@@ -173,8 +158,5 @@ pub fn fit_list(nodes: &[usize], count: usize, inputs: usize, order: &[usize]) -
     requires { Accepted nodes.now count × (inputs ≡ input_count (nodes_of nodes.now count)) }
     ensures { result ≡ fit_list (graph_of (nodes_of nodes.now count)) order.now }
 {
-    if order.len() == count - inputs {
-        return fit_marked(nodes, count, order);
-    }
-    false
+    order.len() == count - inputs && fit_marked(nodes, count, order)
 }

@@ -1,5 +1,5 @@
 // The inputs of a circuit, and an assignment to them (19).
-ghost use Rattle.std.specs.Prelude.{◌≡◌, true, cond, ◌+◌, ◌*◌, ◌<◌, ◌≤◌, ltb, length, replicate};
+ghost use Rattle.std.specs.Prelude.{◌≡◌, true, cond, ◌+◌, ◌*◌, ◌<◌, ◌≤◌, ltb, length};
 ghost use Rattle.laws.specs.Lists.{some};
 ghost use Rattle.circuit.specs.Records.{node_at, nodes_of, is_cell_node};
 ghost use Rattle.runs.specs.Runs.{put_in, input_count, wrong_assignment};
@@ -10,10 +10,7 @@ pub fn input_at(nodes: &[usize], k: usize) -> usize
     requires { k * 9 + 9 ≤ length nodes.now }
     ensures { result ≡ cond (is_cell_node (node_at nodes.now k)) 0 1 }
 {
-    if nodes[k * 9] == 2 {
-        return 0;
-    }
-    1
+    if nodes[k * 9] == 2 { 0 } else { 1 }
 }
 
 // How many inputs there are.
@@ -32,12 +29,7 @@ pub fn count_inputs(nodes: &[usize], count: usize) -> usize
 pub fn some_above(assignment: &[u8], top: u8) -> bool
     ensures { result ≡ some (ltb top) assignment.now }
 {
-    for i in 0..assignment.len() {
-        if top < assignment[i] {
-            return true;
-        }
-    }
-    false
+    assignment.iter().any(|value| top < *value)
 }
 
 // Not a value for each input, or one above the top.
@@ -46,19 +38,7 @@ pub fn wrong_assignment(nodes: &[usize], count: usize, assignment: &[u8], top: u
     ensures { result ≡ wrong_assignment top (nodes_of nodes.now count) assignment.now }
 {
     let n = count_inputs(nodes, count);
-    if assignment.len() == n {
-        return some_above(assignment, top);
-    }
-    true
-}
-
-// Every value marks a cell that waits: a number past the table of answers.
-pub fn mark_all(values: &mut [u8])
-    ensures { values.new ≡ replicate (length values.old) 144 }
-{
-    for i in 0..values.len() {
-        values[i] = 144;
-    }
+    assignment.len() != n || some_above(assignment, top)
 }
 
 // The value of node k goes into the store, if it is an input. The answer is the number of inputs passed.
@@ -79,13 +59,11 @@ pub fn put_inputs(nodes: &[usize], count: usize, assignment: &[u8], values: &mut
     ensures { (result ≡ true → InputsIn nodes.now count assignment.now values.new) × (Passing nodes.now count assignment.now → (result ≡ true) × (values.new ≡ put_in assignment.now 0 0 values.old (nodes_of nodes.now count))) }
 {
     let mut p = 0;
-    let mut k = 0;
-    while p < assignment.len() {
-        if count <= k {
-            return false;
+    for k in 0..count {
+        if assignment.len() <= p {
+            return true;
         }
         p = put_input(nodes, k, assignment, p, values);
-        k += 1;
     }
-    true
+    assignment.len() <= p
 }

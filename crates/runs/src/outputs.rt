@@ -7,22 +7,23 @@ ghost use Rattle.runs.specs.Work.{Tells, Prepared};
 ghost use Rattle.runs.specs.Calls.{room_fault};
 
 use crate::inputs::some_above;
-use crate::values::signal_value;
-use circuit::areas::clear_bytes;
-use circuit::check::some_output_outside;
-use circuit::refusals::{Checked, Refusal};
+use crate::values::wire_value;
+use circuit::check::{are_whole, some_output_outside};
+use circuit::refusals::Refusal;
 
 // Refusal 3: the value store shorter than the nodes, or the output area than the outputs.
-pub fn room_fault(nodes: &[usize], outputs: &[usize], store: usize, answers: usize) -> Checked
+pub fn room_fault(
+    nodes: &[usize],
+    outputs: &[usize],
+    store: usize,
+    answers: usize,
+) -> Result<(), Refusal>
     ensures { result ≡ room_fault nodes.now outputs.now store answers }
 {
-    if store < nodes.len() / 9 {
-        return Checked::Refused(Refusal::NoRoom);
+    if store < nodes.len() / 9 || answers < outputs.len() / 5 {
+        return Err(Refusal::NoRoom);
     }
-    if answers < outputs.len() / 5 {
-        return Checked::Refused(Refusal::NoRoom);
-    }
-    Checked::Sound
+    Ok(())
 }
 
 // What a call needs beside its nodes: whole areas, values up to the top, room for both, the outputs' wires inside.
@@ -36,26 +37,13 @@ pub fn prepared(
 ) -> bool
     ensures { Tells result (Prepared top nodes.now outputs.now assignment.now store answers) }
 {
-    if nodes.len() % 9 == 0 {
-        if outputs.len() % 5 == 0 {
-            let count = nodes.len() / 9;
-            let results = outputs.len() / 5;
-            if store < count {
-                return false;
-            }
-            if answers < results {
-                return false;
-            }
-            if some_above(assignment, top) {
-                return false;
-            }
-            if some_output_outside(outputs, results, count) {
-                return false;
-            }
-            return true;
-        }
+    if !are_whole(nodes, outputs)
+        || some_above(assignment, top)
+        || some_output_outside(outputs, outputs.len() / 5, nodes.len() / 9)
+    {
+        return false;
     }
-    false
+    room_fault(nodes, outputs, store, answers).is_ok()
 }
 
 // The value of each output's wire.
@@ -64,7 +52,7 @@ pub fn put_outputs(outputs: &[usize], count: usize, values: &[u8], answers: &mut
     ensures { answers.new ≡ outputs_from values.now (output_wires outputs.now count) ++ drop count answers.old }
 {
     for j in 0..count {
-        answers[j] = signal_value(outputs[j * 5 + 4], values);
+        answers[j] = wire_value(outputs[j * 5 + 4], values) as u8;
     }
 }
 
@@ -73,15 +61,15 @@ pub fn give(outputs: &[usize], count: usize, values: &mut [u8], answers: &mut [u
     requires { (count * 5 ≤ length outputs.now) × (count ≤ length answers.old) × (some_not_below (length values.old) (output_wires outputs.now count) ≡ false) }
     ensures { (answers.new ≡ outputs_from values.old (output_wires outputs.now count) ++ replicate (length answers.old - count) 0) × (values.new ≡ replicate (length values.old) 0) }
 {
-    clear_bytes(answers);
+    answers.fill(0);
     put_outputs(outputs, count, values, answers);
-    clear_bytes(values);
+    values.fill(0);
 }
 
 // What a refusal leaves: zeros.
 pub fn refuse(values: &mut [u8], answers: &mut [u8])
     ensures { (answers.new ≡ replicate (length answers.old) 0) × (values.new ≡ replicate (length values.old) 0) }
 {
-    clear_bytes(values);
-    clear_bytes(answers);
+    values.fill(0);
+    answers.fill(0);
 }

@@ -29,10 +29,7 @@ pub fn both_earlier(nodes: &[usize], k: usize) -> bool
     ensures { result ≡ true → BothEarlier nodes.now k }
 {
     let at = k * 9;
-    if earlier_node(nodes[at + 7], k) {
-        return earlier_node(nodes[at + 8], k);
-    }
-    false
+    earlier_node(nodes[at + 7], k) && earlier_node(nodes[at + 8], k)
 }
 
 // The value of a node's wire, for a place in a table.
@@ -43,24 +40,14 @@ pub fn node_value(word: usize, values: &[u8]) -> usize
     values[word - 2] as usize
 }
 
-// The value of any wire, for a place in a table.
+// The value of any wire, for a place in a table or an output.
 pub fn wire_value(word: usize, values: &[u8]) -> usize
     requires { not_below (length values.now) (wire_of word) ≡ false }
     ensures { (result ≡ signal_value values.now (wire_of word)) × (result < 256) }
 {
     if word < 2 {
-        return word;
+        word
+    } else {
+        node_value(word, values)
     }
-    node_value(word, values)
-}
-
-// The value of any wire, for the output area.
-pub fn signal_value(word: usize, values: &[u8]) -> u8
-    requires { not_below (length values.now) (wire_of word) ≡ false }
-    ensures { result ≡ signal_value values.now (wire_of word) }
-{
-    if word < 2 {
-        return word as u8;
-    }
-    values[word - 2]
 }

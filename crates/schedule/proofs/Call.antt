@@ -1,5 +1,6 @@
 -- The checks of the call, one after the other, and what the call leaves.
 -- Assumes nothing.
+use Rattle.std.specs.Prelude.{Err, Ok, Result}
 use Prim.Native.Nat.{ℕ, ◌+◌, ◌-◌, ◌*◌, ◌/◌, ◌≤◌, ◌<◌}
 use mathlib.Core.Path.{◌≡◌, refl, sym, ap, ap₂, ◌∙◌}
 use mathlib.Core.Logic.{◌≢◌}
@@ -12,14 +13,11 @@ use borrow.Author.Tests.{eqb-true, eqb-false, eq-eqb, ne_eqb, leb-true, le-leb, 
 use Rattle.laws.proofs.Tests.{and-true}
 use Rattle.circuit.specs.declared.refusals.Refusal.{Refusal}
 use Rattle.circuit.specs.declared.refusals.Refusal.TheVariants.{Broken, NoWindow, WrongValues, NoRoom, Circle}
-use Rattle.circuit.specs.declared.refusals.Checked.{Checked}
-use Rattle.circuit.specs.declared.refusals.Checked.TheVariants.{Sound, Refused}
+use Rattle.circuit.specs.Refusals.{Checked}
 use Rattle.circuit.specs.Refusals.{refuse_if, first_fault}
 use Rattle.circuit.specs.Check.{whole, circuit_broken, nodes_in, wires_in, records_fault}
 use Rattle.circuit.specs.Graph.{cells_of}
 use Rattle.circuit.proofs.Checks.{no_fault, not_refused}
-use Rattle.schedule.specs.declared.Ordered.{Ordered}
-use Rattle.schedule.specs.declared.Ordered.TheVariants.{Cells, Refused as Not}
 use Rattle.schedule.specs.Schedule.{key_at}
 use Rattle.schedule.specs.Call.{graph_in, order_in, room, call_fault, circle_fault, schedule_fault, Left, leaves, left_by, schedule_call}
 use Rattle.schedule.specs.Areas.{Listed, Orderable}
@@ -44,45 +42,45 @@ module _ (n ready successors order : ℕ) where
 -- 15, 18, 19, 3
 
 module _ (nodes outputs : List ℕ) (window : ℕ) (keys : List ℕ) (ready successors order : ℕ) where
-  pub fault_records : (f : Checked) → f ≡ records_fault nodes outputs → (e : Refusal) → f ≡ Refused e → Refused e ≡ call_fault nodes outputs window keys ready successors order
+  pub fault_records : (f : Checked) → f ≡ records_fault nodes outputs → (e : Refusal) → f ≡ Err e → Err e ≡ call_fault nodes outputs window keys ready successors order
   unfolding call_fault
   fault_records f s e q = rw (sym s ∙ q)
 
-  module _ (f : Checked) (s : f ≡ records_fault nodes outputs) (sound : f ≡ Sound) where
-    passed : records_fault nodes outputs ≡ Sound
+  module _ (f : Checked) (s : f ≡ records_fault nodes outputs) (sound : f ≡ Ok tt) where
+    passed : records_fault nodes outputs ≡ Ok tt
     passed = sym s ∙ sound
 
-    pub fault_window : window ≡ 0 → Refused NoWindow ≡ call_fault nodes outputs window keys ready successors order
+    pub fault_window : window ≡ 0 → Err NoWindow ≡ call_fault nodes outputs window keys ready successors order
     unfolding call_fault
     fault_window w = rw (passed, eq-eqb window 0 w)
 
     module _ (w : window ≢ 0) where
-      pub fault_keys : length keys ≢ 3 * (length nodes / 9) → Refused WrongValues ≡ call_fault nodes outputs window keys ready successors order
+      pub fault_keys : length keys ≢ 3 * (length nodes / 9) → Err WrongValues ≡ call_fault nodes outputs window keys ready successors order
       unfolding call_fault
       fault_keys k = rw (passed, ne_eqb window 0 w, ne_eqb (length keys) (3 * (length nodes / 9)) k)
 
       module _ (k : length keys ≡ 3 * (length nodes / 9)) (t : Bool) (r : t ≡ room (length nodes / 9) ready successors order) where
-        pub fault_none : t ≡ true → Sound ≡ call_fault nodes outputs window keys ready successors order
+        pub fault_none : t ≡ true → (Ok tt) ≡ call_fault nodes outputs window keys ready successors order
         unfolding call_fault
         fault_none e = rw (passed, ne_eqb window 0 w, eq-eqb (length keys) (3 * (length nodes / 9)) k, sym r ∙ e)
 
-        pub fault_room : t ≡ false → Refused NoRoom ≡ call_fault nodes outputs window keys ready successors order
+        pub fault_room : t ≡ false → Err NoRoom ≡ call_fault nodes outputs window keys ready successors order
         unfolding call_fault
         fault_room e = rw (passed, ne_eqb window 0 w, eq-eqb (length keys) (3 * (length nodes / 9)) k, sym r ∙ e)
 
   -- what is known once they are passed
-  module _ (sound : call_fault nodes outputs window keys ready successors order ≡ Sound) where
-    records_sound : (records_fault nodes outputs ≡ Sound) × (first_fault (refuse_if (eqb window 0) NoWindow) (first_fault (refuse_if (not (eqb (length keys) (3 * (length nodes / 9)))) WrongValues) (refuse_if (not (room (length nodes / 9) ready successors order)) NoRoom)) ≡ Sound)
+  module _ (sound : call_fault nodes outputs window keys ready successors order ≡ Ok tt) where
+    records_sound : (records_fault nodes outputs ≡ Ok tt) × (first_fault (refuse_if (eqb window 0) NoWindow) (first_fault (refuse_if (not (eqb (length keys) (3 * (length nodes / 9)))) WrongValues) (refuse_if (not (room (length nodes / 9) ready successors order)) NoRoom)) ≡ Ok tt)
     unfolding call_fault
     records_sound = no_fault _ _ sound
 
-    pub sound_records : records_fault nodes outputs ≡ Sound
+    pub sound_records : records_fault nodes outputs ≡ Ok tt
     sound_records = records_sound.0
 
-    window_sound : (refuse_if (eqb window 0) NoWindow ≡ Sound) × (first_fault (refuse_if (not (eqb (length keys) (3 * (length nodes / 9)))) WrongValues) (refuse_if (not (room (length nodes / 9) ready successors order)) NoRoom) ≡ Sound)
+    window_sound : (refuse_if (eqb window 0) NoWindow ≡ Ok tt) × (first_fault (refuse_if (not (eqb (length keys) (3 * (length nodes / 9)))) WrongValues) (refuse_if (not (room (length nodes / 9) ready successors order)) NoRoom) ≡ Ok tt)
     window_sound = no_fault _ _ records_sound.1
 
-    keys_sound : (refuse_if (not (eqb (length keys) (3 * (length nodes / 9)))) WrongValues ≡ Sound) × (refuse_if (not (room (length nodes / 9) ready successors order)) NoRoom ≡ Sound)
+    keys_sound : (refuse_if (not (eqb (length keys) (3 * (length nodes / 9)))) WrongValues ≡ Ok tt) × (refuse_if (not (room (length nodes / 9) ready successors order)) NoRoom ≡ Ok tt)
     keys_sound = no_fault _ _ window_sound.1
 
     not-false : (t : Bool) → not t ≡ false → t ≡ true
@@ -114,42 +112,42 @@ module _ (nodes outputs : List ℕ) (window : ℕ) (keys : List ℕ) (ready succ
 
 -- the order, or 17
 
-left_same : (a b : Ordered) (r s o r' s' o' : List ℕ) → a ≡ b → r ≡ r' → s ≡ s' → o ≡ o' → leaves a r s o ≡ leaves b r' s' o'
+left_same : (a b : (Result ℕ Refusal)) (r s o r' s' o' : List ℕ) → a ≡ b → r ≡ r' → s ≡ s' → o ≡ o' → leaves a r s o ≡ leaves b r' s' o'
 left_same a b r s o r' s' o' p q u v = λ i. record { answer = p i; ready = q i; successors = u i; order = v i }
 
 module _ (nodes : List ℕ) (count : ℕ) (keys : List ℕ) (window : ℕ) (order : List ℕ) (r cells : ℕ) (l : Listed nodes count keys window order r) (e : cells ≡ length (cells_of (graph_in nodes count)))
     (ready successors : List ℕ) (a b m : ℕ) (p : ready ≡ replicate a 0) (q : successors ≡ replicate b 0) (size : length order ≡ m) where
   -- no 17 where as many were taken as there are cells, 17 otherwise
-  counts_none : r ≡ cells → circle_fault nodes count window keys ≡ Sound
+  counts_none : r ≡ cells → circle_fault nodes count window keys ≡ Ok tt
   unfolding circle_fault order_in
   counts_none same = ap (λ (t : Bool). refuse_if t Circle) (count_all (graph_in nodes count) window (key_at keys) (sym l.number ∙ same ∙ e))
 
-  counts_circle : r ≢ cells → circle_fault nodes count window keys ≡ Refused Circle
+  counts_circle : r ≢ cells → circle_fault nodes count window keys ≡ Err Circle
   unfolding circle_fault order_in
   counts_circle differs = ap (λ (t : Bool). refuse_if t Circle) (count_some (graph_in nodes count) window (key_at keys) (λ same. differs (l.number ∙ same ∙ sym e)))
 
-  pub call_cells : r ≡ cells → leaves (Cells r) ready successors order ≡ left_by (circle_fault nodes count window keys) (length (cells_of (graph_in nodes count))) (order_in nodes count window keys) a b m
+  pub call_cells : r ≡ cells → leaves (Ok r) ready successors order ≡ left_by (circle_fault nodes count window keys) (length (cells_of (graph_in nodes count))) (order_in nodes count window keys) a b m
   call_cells same =
       rw (counts_none same)
-      (left_same (Cells r) (Cells (length (cells_of (graph_in nodes count)))) ready successors order (replicate a 0) (replicate b 0) (order_in nodes count window keys ++ replicate (m - length (order_in nodes count window keys)) 0)
-      (ap Cells (same ∙ e)) p q (l.listed ∙ ap₂ (λ (x y : ℕ). order_in nodes count window keys ++ replicate (x - y) 0) size l.number))
+      (left_same (Ok r) (Ok (length (cells_of (graph_in nodes count)))) ready successors order (replicate a 0) (replicate b 0) (order_in nodes count window keys ++ replicate (m - length (order_in nodes count window keys)) 0)
+      (ap Ok (same ∙ e)) p q (l.listed ∙ ap₂ (λ (x y : ℕ). order_in nodes count window keys ++ replicate (x - y) 0) size l.number))
 
-  pub call_circle : r ≢ cells → (after : List ℕ) → after ≡ replicate m 0 → leaves (Not Circle) ready successors after ≡ left_by (circle_fault nodes count window keys) (length (cells_of (graph_in nodes count))) (order_in nodes count window keys) a b m
+  pub call_circle : r ≢ cells → (after : List ℕ) → after ≡ replicate m 0 → leaves (Err Circle) ready successors after ≡ left_by (circle_fault nodes count window keys) (length (cells_of (graph_in nodes count))) (order_in nodes count window keys) a b m
   call_circle differs after z =
       rw (counts_circle differs)
-      (left_same (Not Circle) (Not Circle) ready successors after (replicate a 0) (replicate b 0) (replicate m 0) refl p q z)
+      (left_same (Err Circle) (Err Circle) ready successors after (replicate a 0) (replicate b 0) (replicate m 0) refl p q z)
 
 -- the whole call
 
 module _ (nodes outputs : List ℕ) (window : ℕ) (keys ready successors order : List ℕ) (f : Checked) (s : f ≡ call_fault nodes outputs window keys (length ready) (length successors) (length order)) where
-  pub call_refused : (e : Refusal) → f ≡ Refused e → (ready' successors' order' : List ℕ) → ready' ≡ replicate (length ready) 0 → successors' ≡ replicate (length successors) 0 → order' ≡ replicate (length order) 0 → leaves (Not e) ready' successors' order' ≡ schedule_call nodes outputs window keys ready successors order
+  pub call_refused : (e : Refusal) → f ≡ Err e → (ready' successors' order' : List ℕ) → ready' ≡ replicate (length ready) 0 → successors' ≡ replicate (length successors) 0 → order' ≡ replicate (length order) 0 → leaves (Err e) ready' successors' order' ≡ schedule_call nodes outputs window keys ready successors order
   unfolding schedule_call schedule_fault
   call_refused e q ready' successors' order' x y z =
-      rw (sym s ∙ q) (left_same (Not e) (Not e) ready' successors' order' (replicate (length ready) 0) (replicate (length successors) 0) (replicate (length order) 0) refl x y z)
+      rw (sym s ∙ q) (left_same (Err e) (Err e) ready' successors' order' (replicate (length ready) 0) (replicate (length successors) 0) (replicate (length order) 0) refl x y z)
 
-  pub call_ordered : f ≡ Sound → (left : Left) → left ≡ left_by (circle_fault nodes (length nodes / 9) window keys) (length (cells_of (graph_in nodes (length nodes / 9)))) (order_in nodes (length nodes / 9) window keys) (length ready) (length successors) (length order) → left ≡ schedule_call nodes outputs window keys ready successors order
+  pub call_ordered : f ≡ Ok tt → (left : Left) → left ≡ left_by (circle_fault nodes (length nodes / 9) window keys) (length (cells_of (graph_in nodes (length nodes / 9)))) (order_in nodes (length nodes / 9) window keys) (length ready) (length successors) (length order) → left ≡ schedule_call nodes outputs window keys ready successors order
   unfolding schedule_call schedule_fault
   call_ordered q left e = rw (sym s ∙ q) e
 
-  pub call_orderable : f ≡ Sound → Orderable nodes (length keys) window (length ready) (length successors) (length order)
+  pub call_orderable : f ≡ Ok tt → Orderable nodes (length keys) window (length ready) (length successors) (length order)
   call_orderable q = orderable nodes outputs window keys (length ready) (length successors) (length order) (sym s ∙ q)

@@ -1,19 +1,22 @@
 -- How the chains of reads are built, and the words of the nodes opened.
 -- Assumes nothing.
 use Prim.Native.Nat.{ℕ, zero, suc, ◌+◌, ◌-◌, ◌*◌, ◌≤◌, ◌<◌}
-use mathlib.Core.Path.{◌≡◌, refl, sym, ap, ap₂, ◌∙◌, subst}
+use mathlib.Core.Path.{◌≡◌, refl, sym, ap, ap₂, ◌∙◌}
 use mathlib.Core.Logic.{◌≢◌}
 use mathlib.Core.Bool.{Bool, true, false, not, ◌&&◌}
 use mathlib.Core.List.{List, []}
 use native.Mathlib.Omega.{arith}
 use native.Mathlib.Numerals.{add-one}
 use lib.Dec.{eqb}
-use lib.ListN.{length, get_or, set, drop, length-set}
+use lib.ListN.{length, get_or, drop, length-set}
 use lib.Seq.{get_or-set_same, get_or-set_other, drop-set-lt}
-use borrow.Author.Tests.{ne_eqb, eq-eqb, eqb-true, eqb-false}
+use borrow.Author.Tests.{ne_eqb, eqb-true, eqb-false}
 use Rattle.circuit.specs.Graph.{is_cell, waits}
 use Rattle.schedule.specs.Call.{graph_in}
-use Rattle.schedule.specs.Areas.{cell_at, Wired, source_of, last_of, both, word_passes, reading, Running, head_set, next_set, Linked, linked, Opened, Empty}
+use mir.Val.{bool_byte}
+use Rattle.std.specs.Prelude.{Option, None, Some}
+use Rattle.std.specs.Option.{is_some}
+use Rattle.schedule.specs.Areas.{cell_at, one, entry_of, Wired, source_of, last_of, both, word_passes, reading, Running, head_set, next_set, Linked, linked, Opened, Empty}
 use Rattle.readyset.specs.Sets.{member, Levels}
 use Rattle.laws.proofs.Tests.{clash, or_false}
 use Rattle.laws.proofs.Digits.{and_last}
@@ -21,26 +24,6 @@ use Rattle.circuit.proofs.Graph.{waits_makes}
 use Rattle.schedule.proofs.Edges.{last_more, last_other, both_same}
 use Rattle.schedule.proofs.Records.{length_in, cell-is}
 use Rattle.schedule.proofs.Sources.{sourced}
-
-pub head_none : (area : List ℕ) (edge from : ℕ) → from ≡ 0 → area ≡ head_set area edge from
-unfolding head_set
-head_none area edge zero e = refl
-head_none area edge (suc x) e = absurd (omega arith)
-
-pub next-none : (area next : List ℕ) (edge from : ℕ) → from ≡ 0 → next ≡ next_set area next edge from
-unfolding next_set
-next-none area next edge zero e = refl
-next-none area next edge (suc x) e = absurd (omega arith)
-
-pub head_some : (area : List ℕ) (edge from : ℕ) → from ≢ 0 → set area (2 * (from - 1) + 1) edge ≡ head_set area edge from
-unfolding head_set
-head_some area edge zero e = absurd (e refl)
-head_some area edge (suc x) e = let z : suc x - 1 ≡ x = omega arith in rw z
-
-pub next-some : (area next : List ℕ) (edge from : ℕ) → from ≢ 0 → set next edge (get_or area (2 * (from - 1) + 1) 0) ≡ next_set area next edge from
-unfolding next_set
-next-some area next edge zero e = absurd (e refl)
-next-some area next edge (suc x) e = let z : suc x - 1 ≡ x = omega arith in rw z
 
 pub head_length : (area : List ℕ) (edge from : ℕ) → length (head_set area edge from) ≡ length area
 unfolding head_set
@@ -189,24 +172,13 @@ module _ (nodes : List ℕ) (n : ℕ) (wired : Wired nodes n) where
         sourced = sourced nodes n wired;
       }
 
--- the two reads of a node, counted by cases
+-- the two reads of a node, counted
 
-module _ (src : ℕ → ℕ) (q first second : ℕ) (e : first ≡ src (2 * q + 1)) (f : second ≡ src (2 * q + 2)) where
-  pub count_none : first ≡ 0 → second ≡ 0 → 0 ≡ both (linked src) q
-  unfolding both linked
-  count_none a b = rw (← e, ← f, eq-eqb first 0 a, eq-eqb second 0 b)
+word_is : (src : ℕ → ℕ) (e : ℕ) (r : Option ℕ) → entry_of r ≡ src e → bool_byte (is_some r) ≡ one (linked src e)
+unfolding linked
+word_is src e None h = rw (← h)
+word_is src e (Some x) h = rw (← h, ne_eqb (suc x) 0 (omega arith))
 
-  pub count_second : first ≡ 0 → second ≢ 0 → 1 ≡ both (linked src) q
-  unfolding both linked
-  count_second a b = rw (← e, ← f, eq-eqb first 0 a, ne_eqb second 0 b)
-
-  pub count_first : first ≢ 0 → second ≡ 0 → 1 ≡ both (linked src) q
-  unfolding both linked
-  count_first a b = rw (← e, ← f, ne_eqb first 0 a, eq-eqb second 0 b)
-
-  pub count_two : first ≢ 0 → second ≢ 0 → 2 ≡ both (linked src) q
-  unfolding both linked
-  count_two a b = rw (← e, ← f, ne_eqb first 0 a, ne_eqb second 0 b)
-
-pub linked_at : (src : ℕ → ℕ) (n m k : ℕ) (area next : List ℕ) → Linked src n m area next → m ≡ k → Linked src n k area next
-linked_at src n m k area next l e = subst (λ (z : ℕ). Linked src n z area next) e l
+pub count_both : (src : ℕ → ℕ) (q : ℕ) (first second : Option ℕ) → entry_of first ≡ src (2 * q + 1) → entry_of second ≡ src (2 * q + 2) → bool_byte (is_some first) + bool_byte (is_some second) ≡ both (linked src) q
+unfolding both
+count_both src q first second e f = rw (word_is src (2 * q + 1) first e, word_is src (2 * q + 2) second f)

@@ -8,7 +8,7 @@ use mathlib.Core.List.{List}
 use native.Mathlib.Omega.{arith}
 use lib.Dec.{eqb, ltb}
 use lib.ListN.{length, get_or, set, length-set}
-use lib.Seq.{get_or-set_same, get_or-set_other, set-get_or}
+use lib.Seq.{get_or-set_same, get_or-set_other}
 use borrow.Author.Tests.{eqb-true, eqb-false, ltb-true, ltb-false}
 use Rattle.schedule.specs.Schedule.{Key}
 use Rattle.schedule.specs.Tree.{ahead, Leads, better_of, Joined, LeavesKept}
@@ -79,21 +79,6 @@ module _ (key : ℕ → Key) (leaves n : ℕ) (tree : List ℕ) (v : ℕ) (above
         nodes = λ u a b. bound 1 v (omega arith) j (j.nodes (2 * v) (omega arith) (omega arith)) (j.nodes (2 * v + 1) (omega arith) (omega arith)) u (inl a) b;
         inner = λ u a b c. right 1 v (omega arith) j u (λ z. c (omega arith)) (λ z. c (omega arith)) (λ d. j.inner u a b d);
       }
-
-  -- it was right already
-  pub join-stop : not (eqb (get_or tree v 0) (better_of key tree v)) ≡ false → Joined key leaves n tree 1 v → Joined key leaves n after 1 0
-  join-stop h j = rw (kept) (record { room = j.room; nodes = j.nodes; inner = λ u a b c. go u a b (eqb u v) refl })
-    where
-      still : (t : Bool) → eqb (get_or tree v 0) (better_of key tree v) ≡ t → get_or tree v 0 ≡ better_of key tree v
-      still true e = eqb-true _ _ e
-      still false e = absurd (true≢false (rw e at h))
-
-      kept : after ≡ tree
-      kept = ap (set tree v) (sym (still (eqb (get_or tree v 0) (better_of key tree v)) refl)) ∙ set-get_or tree v 0
-
-      go : (u : ℕ) → 1 ≤ u → u < leaves → (t : Bool) → eqb u v ≡ t → get_or tree u 0 ≡ better_of key tree u
-      go u a b true e = let q = eqb-true u v e in ap (λ (k : ℕ). get_or tree k 0) q ∙ still (eqb (get_or tree v 0) (better_of key tree v)) refl ∙ ap (better_of key tree) (sym q)
-      go u a b false e = j.inner u a b (eqb-false u v e)
 
   -- from the last one down
   pub join_down : (start : ℕ) → start ≡ v + 1 → Joined key leaves n tree start 0 → Joined key leaves n after v 0

@@ -9,7 +9,8 @@ use native.Mathlib.Omega.{arith}
 use lib.Dec.{eqb}
 use lib.ListN.{get_or}
 use borrow.Author.Tests.{ne_eqb, eq-eqb, le-ltb, lt-ltb, eqb-true, eqb-false}
-use Rattle.schedule.specs.Areas.{wire_at, only_cell, source_of, last_of, both}
+use Rattle.std.specs.Bool.{then_some}
+use Rattle.schedule.specs.Areas.{wire_at, only_cell, source_of, entry_of, last_of, both}
 
 -- wires and sources
 
@@ -30,27 +31,20 @@ only_const nodes zero h = refl
 only_const nodes (suc zero) h = refl
 only_const nodes (suc (suc x)) h = absurd (omega arith)
 
-only_input : (nodes : List ℕ) (w : ℕ) → 2 ≤ w → get_or nodes (9 * (w - 2)) 0 ≢ 2 → 0 ≡ only_cell nodes w
-only_input nodes zero h n = absurd (omega arith)
-only_input nodes (suc zero) h n = absurd (omega arith)
-only_input nodes (suc (suc x)) h n = let e : suc (suc x) - 2 ≡ x = omega arith in rw (ne_eqb (get_or nodes (9 * x) 0) 2 (rw e at n))
-
-only-cell : (nodes : List ℕ) (w : ℕ) → 2 ≤ w → get_or nodes (9 * (w - 2)) 0 ≡ 2 → w - 1 ≡ only_cell nodes w
-only-cell nodes zero h n = absurd (omega arith)
-only-cell nodes (suc zero) h n = absurd (omega arith)
-only-cell nodes (suc (suc x)) h n = let e : suc (suc x) - 2 ≡ x = omega arith in rw (eq-eqb (get_or nodes (9 * x) 0) 2 (rw e at n)) (omega arith)
+only_there : (nodes : List ℕ) (x : ℕ) → entry_of (then_some (eqb (get_or nodes (9 * x) 0) 2) x) ≡ only_cell nodes (suc (suc x))
+only_there nodes x = go (eqb (get_or nodes (9 * x) 0) 2)
+  where
+    go : (t : Bool) → entry_of (then_some t x) ≡ cond t (suc x) 0
+    go true = refl
+    go false = refl
 
 pub source_const : (nodes : List ℕ) (e w : ℕ) → w ≡ wire_at nodes ((e - 1) / 2) ((e - 1) % 2) → w < 2 → 0 ≡ source_of nodes e
 unfolding source_of
 source_const nodes e w q h = rw (← q) (only_const nodes w h)
 
-pub source_input : (nodes : List ℕ) (e w : ℕ) → w ≡ wire_at nodes ((e - 1) / 2) ((e - 1) % 2) → 2 ≤ w → get_or nodes (9 * (w - 2)) 0 ≢ 2 → 0 ≡ source_of nodes e
+pub source_there : (nodes : List ℕ) (e w : ℕ) → w ≡ wire_at nodes ((e - 1) / 2) ((e - 1) % 2) → (x : ℕ) → w ≡ suc (suc x) → entry_of (then_some (eqb (get_or nodes (9 * x) 0) 2) x) ≡ source_of nodes e
 unfolding source_of
-source_input nodes e w q h n = rw (← q) (only_input nodes w h n)
-
-pub source_cell : (nodes : List ℕ) (e w : ℕ) → w ≡ wire_at nodes ((e - 1) / 2) ((e - 1) % 2) → 2 ≤ w → get_or nodes (9 * (w - 2)) 0 ≡ 2 → w - 1 ≡ source_of nodes e
-unfolding source_of
-source_cell nodes e w q h n = rw (← q) (only-cell nodes w h n)
+source_there nodes e w q x h = rw (← q, h) (only_there nodes x)
 
 -- the last read of a cell
 

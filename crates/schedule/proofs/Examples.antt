@@ -1,5 +1,6 @@
 -- Examples of the call, each computed from the definition.
 -- Assumes nothing.
+use Rattle.std.specs.Prelude.{Ok}
 use mathlib.Core.Path.{◌≡◌, refl}
 use mathlib.Core.Bool.{false}
 use mathlib.Core.List.{List, [], ◌∷◌}
@@ -15,7 +16,6 @@ use Rattle.circuit.specs.declared.records.Output.{Output}
 use Rattle.circuit.specs.Records.{encode_node, encode_output, is_cell_node, wires_of}
 use Rattle.circuit.specs.Check.{cell_broken, record_broken, node_broken, circuit_broken, whole, records_fault}
 use Rattle.circuit.specs.Graph.{nodes_read, vertex_of, graph_of, outside, is_cell, reads_of, cells_of, waits, free, ready, ready_cells}
-use Rattle.schedule.specs.declared.Ordered.TheVariants.{Cells}
 use Rattle.schedule.specs.Schedule.{key_at, above, best, pick, next, schedule_from, schedule_of}
 use Rattle.schedule.specs.Call.{ordered_number, ordered_cells, graph_in, order_in, room, leaves_out, call_fault, circle_fault, schedule_fault, Left, leaves, schedule_call}
 
@@ -49,7 +49,7 @@ equal m = replicate (3 * m) 5
 -- * "that order": window 2, key (0, 0, node number), on areas that held something else: 3 2 4, zeros after it and elsewhere
 pub starred-order :
     schedule_call (encodes encode_node listed) (encodes encode_output (output (n 4) ∷ [])) 2 (numbered 0 5) (replicate 16 7) (replicate 12 7) (replicate 6 7)
-    ≡ leaves (Cells 3) (replicate 16 0) (replicate 12 0) (3 ∷ 2 ∷ 4 ∷ 0 ∷ 0 ∷ 0 ∷ [])
+    ≡ leaves (Ok 3) (replicate 16 0) (replicate 12 0) (3 ∷ 2 ∷ 4 ∷ 0 ∷ 0 ∷ 0 ∷ [])
 unfolding schedule_call schedule_fault call_fault circle_fault room leaves_out graph_in order_in schedule_of schedule_from next pick best above key_at graph_of vertex_of nodes_read outside is_cell reads_of waits free ready ready_cells cells_of numbers records_fault whole circuit_broken node_broken record_broken cell_broken wires_of is_cell_node
 starred-order = refl
 

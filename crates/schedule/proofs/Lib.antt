@@ -1,3 +1,4 @@
+pub mod Compare
 pub mod Order
 pub mod WindowOne
 pub mod Greatest

@@ -2,7 +2,6 @@
 -- Assumes nothing.
 use Prim.Native.Nat.{ℕ, suc, ◌+◌, ◌-◌, ◌*◌, ◌≤◌, ◌<◌, min}
 use mathlib.Core.Path.{◌≡◌, refl, sym, ap, ◌∙◌}
-use mathlib.Core.Logic.{◌≢◌}
 use mathlib.Core.Bool.{Bool, true, false, cond}
 use mathlib.Core.List.{List, [], ◌∷◌, ◌++◌}
 use mathlib.Core.Option.{some}
@@ -11,33 +10,18 @@ use native.Mathlib.Numerals.{add-one}
 use lib.Dec.{ltb}
 use lib.ListN.{length, take, drop}
 use lib.Seq.{take-nil, take_all}
-use borrow.Author.Tests.{ne_eqb, eq-eqb, le-ltb, ltb-true, ltb-false}
+use borrow.Author.Tests.{ltb-true, ltb-false}
 use Rattle.laws.specs.Lists.{keep, numbers}
-use Rattle.laws.proofs.Tests.{or_false}
 use Rattle.laws.proofs.Lists.{numbers-empty}
 use Rattle.laws.proofs.Parts.{part_rest}
-use Rattle.readyset.specs.Sets.{member, First}
+use Rattle.std.specs.Prelude.{Option, None, Some}
+use Rattle.std.specs.Option.{IsSome}
+use Rattle.readyset.specs.Sets.{member, First, FirstIs}
 use Rattle.schedule.specs.declared.waiting.ReadyCells.{ReadyCells}
 use Rattle.schedule.specs.declared.picking.Picked.{Picked}
 use Rattle.schedule.specs.Schedule.{Key, key_at, above, best, pick}
 use Rattle.schedule.specs.Areas.{ready_in, Counted, PickedIs}
 use Rattle.schedule.proofs.WindowOne.{numbers-append}
-
--- a key against a key
-
-pub above-first : (a b : Key) → a.first ≢ b.first → ltb b.first a.first ≡ above a b
-unfolding above
-above-first a b h = rw (ne_eqb b.first a.first (λ e. h (sym e))) (sym (or_false (ltb b.first a.first)))
-
-pub above_second : (a b : Key) → a.first ≡ b.first → a.second ≢ b.second → ltb b.second a.second ≡ above a b
-unfolding above
-above_second a b e h =
-    rw (le-ltb b.first a.first (omega arith), eq-eqb b.first a.first (sym e), ne_eqb b.second a.second (λ q. h (sym q))) (sym (or_false (ltb b.second a.second)))
-
-pub above_third : (a b : Key) → a.first ≡ b.first → a.second ≡ b.second → ltb b.third a.third ≡ above a b
-unfolding above
-above_third a b e h =
-    rw (le-ltb b.first a.first (omega arith), eq-eqb b.first a.first (sym e), le-ltb b.second a.second (omega arith), eq-eqb b.second a.second (sym h))
 
 choice_below : (t : Bool) (b k : ℕ) → b ≤ k → cond t k b ≤ k
 choice_below true b k h = omega arith
@@ -144,6 +128,10 @@ module _ (n : ℕ) (area keys : List ℕ) (cells : ReadyCells) (counted : Counte
         low = omega (arith, picked_below h);
         none = λ j l. whole.none j (omega arith) (omega arith) (omega (arith, picked_below h));
       }
+
+pub picked_some : (n : ℕ) (area keys : List ℕ) (cells : ReadyCells) → Counted n area cells → 1 ≤ cells.number → (r : Option ℕ) → FirstIs (member (take (length area - 2 * n) (drop (2 * n) area))) cells.from n r → IsSome r
+picked_some n area keys cells counted h (Some x) f = refl
+picked_some n area keys cells counted h None f = absurd (omega (arith, picked_below n area keys cells counted n f h))
 
 -- one more node against the best so far
 module _ (keys : List ℕ) (best₀ node : ℕ) (a b : Key) (p : a ≡ key_at keys node) (q : b ≡ key_at keys best₀) (t : Bool) (e : t ≡ above a b) where

@@ -1,5 +1,6 @@
 -- The promises of specs/Promises, proved of every circuit; and that a circuit which passes `validate_topological` is not broken.
 -- Assumes nothing.
+use Rattle.std.specs.Prelude.{Err, Ok}
 use Prim.Native.Nat.{ℕ, suc, ◌/◌, ◌≤◌, ◌<◌}
 use mathlib.Core.Path.{◌≡◌, refl, sym, ap, ◌∙◌}
 use mathlib.Core.Bool.{Bool, true, false, not}
@@ -9,7 +10,6 @@ use lib.ListN.{length, get_or}
 use Rattle.laws.specs.Lists.{some}
 use Rattle.laws.proofs.Tests.{false_of}
 use Rattle.circuit.specs.declared.refusals.Refusal.TheVariants.{Broken, Circle as InCircle}
-use Rattle.circuit.specs.declared.refusals.Checked.TheVariants.{Sound, Refused}
 use Rattle.circuit.specs.declared.records.BoolNode.{BoolNode}
 use Rattle.circuit.specs.declared.records.BoolWire.{BoolWire}
 use Rattle.circuit.specs.Refusals.{refuse_if}
@@ -39,12 +39,12 @@ unfolding circuit_broken node_broken
 sound_unbroken ns os s =
     rw (some_nowhere (node_broken (length ns)) ns no_node (λ k h. rw (s.nodes k h).rules (s.nodes k h).inside)) s.outputs
 
-module _ (nodes outputs : List ℕ) (valid : topological_fault nodes outputs ≡ Sound) where
-  parts : (refuse_if (not (whole nodes outputs)) Broken ≡ Sound) × (check_circuit (nodes_in nodes) (wires_in outputs) ≡ Sound)
+module _ (nodes outputs : List ℕ) (valid : topological_fault nodes outputs ≡ Ok tt) where
+  parts : (refuse_if (not (whole nodes outputs)) Broken ≡ Ok tt) × (check_circuit (nodes_in nodes) (wires_in outputs) ≡ Ok tt)
   unfolding topological_fault
   parts = no_fault (refuse_if (not (whole nodes outputs)) Broken) (check_circuit (nodes_in nodes) (wires_in outputs)) valid
 
-  pub validated_records : records_fault nodes outputs ≡ Sound
+  pub validated_records : records_fault nodes outputs ≡ Ok tt
   unfolding records_fault
   validated_records = rw (parts.0, sound_unbroken (nodes_in nodes) (wires_in outputs) (circuit-sound (nodes_in nodes) (wires_in outputs) parts.1))
 
@@ -61,7 +61,7 @@ ordered nodes n window keys =
 
 -- of the call
 
-module _ (nodes outputs : List ℕ) (window : ℕ) (keys : List ℕ) (ready successors order : ℕ) (passed : call_fault nodes outputs window keys ready successors order ≡ Sound) where
+module _ (nodes outputs : List ℕ) (window : ℕ) (keys : List ℕ) (ready successors order : ℕ) (passed : call_fault nodes outputs window keys ready successors order ≡ Ok tt) where
   at_least_one : 1 ≤ window
   at_least_one = (orderable nodes outputs window keys ready successors order passed).window_is
 
@@ -69,45 +69,45 @@ module _ (nodes outputs : List ℕ) (window : ℕ) (keys : List ℕ) (ready succ
   unfolding schedule_fault
   last = rw passed
 
-  circle_refuses : Circle (graph_in nodes (length nodes / 9)) → schedule_fault nodes outputs window keys ready successors order ≡ Refused InCircle
+  circle_refuses : Circle (graph_in nodes (length nodes / 9)) → schedule_fault nodes outputs window keys ready successors order ≡ Err InCircle
   unfolding circle_fault order_in
   circle_refuses o = last ∙ ap (λ (t : Bool). refuse_if t InCircle) (circle_out (graph_in nodes (length nodes / 9)) window (key_at keys) o)
 
-  not_out : schedule_fault nodes outputs window keys ready successors order ≡ Sound → leaves_out (order_in nodes (length nodes / 9) window keys) (cells_of (graph_in nodes (length nodes / 9))) ≡ false
+  not_out : schedule_fault nodes outputs window keys ready successors order ≡ Ok tt → leaves_out (order_in nodes (length nodes / 9) window keys) (cells_of (graph_in nodes (length nodes / 9))) ≡ false
   unfolding circle_fault
   not_out e = not_refused _ InCircle (sym last ∙ e)
 
-  refuses_circle : schedule_fault nodes outputs window keys ready successors order ≡ Refused InCircle → Circle (graph_in nodes (length nodes / 9))
+  refuses_circle : schedule_fault nodes outputs window keys ready successors order ≡ Err InCircle → Circle (graph_in nodes (length nodes / 9))
   unfolding circle_fault order_in
   refuses_circle e = go (leaves_out (order_in nodes (length nodes / 9) window keys) (cells_of (graph_in nodes (length nodes / 9)))) refl
     where
       go : (t : Bool) → leaves_out (order_in nodes (length nodes / 9) window keys) (cells_of (graph_in nodes (length nodes / 9))) ≡ t → Circle (graph_in nodes (length nodes / 9))
       go true q = out_circle (graph_in nodes (length nodes / 9)) window (key_at keys) at_least_one q
       go false q =
-          let s : Sound ≡ Refused InCircle = sym (last ∙ ap (λ (t : Bool). refuse_if t InCircle) q) ∙ e in
+          let s : (Ok tt) ≡ Err InCircle = sym (last ∙ ap (λ (t : Bool). refuse_if t InCircle) q) ∙ e in
           let z : ◌≡◌ {A = ℕ} 0 1 = cc in
           absurd (omega arith)
 
-  accepts : (Circle (graph_in nodes (length nodes / 9)) → ⊥) → schedule_fault nodes outputs window keys ready successors order ≡ Sound
+  accepts : (Circle (graph_in nodes (length nodes / 9)) → ⊥) → schedule_fault nodes outputs window keys ready successors order ≡ Ok tt
   unfolding circle_fault order_in
   accepts no-circle =
       last ∙ ap (λ (t : Bool). refuse_if t InCircle) (false_of _ (λ q. no-circle (out_circle (graph_in nodes (length nodes / 9)) window (key_at keys) at_least_one q)))
 
-  no_circle_in : schedule_fault nodes outputs window keys ready successors order ≡ Sound → Circle (graph_in nodes (length nodes / 9)) → ⊥
+  no_circle_in : schedule_fault nodes outputs window keys ready successors order ≡ Ok tt → Circle (graph_in nodes (length nodes / 9)) → ⊥
   no_circle_in e o =
-      let s : Sound ≡ Refused InCircle = sym e ∙ circle_refuses o in
+      let s : (Ok tt) ≡ Err InCircle = sym e ∙ circle_refuses o in
       let z : ◌≡◌ {A = ℕ} 0 1 = cc in
       omega arith
 
-  lists_every : schedule_fault nodes outputs window keys ready successors order ≡ Sound → ListsAll (graph_in nodes (length nodes / 9)) (order_in nodes (length nodes / 9) window keys)
+  lists_every : schedule_fault nodes outputs window keys ready successors order ≡ Ok tt → ListsAll (graph_in nodes (length nodes / 9)) (order_in nodes (length nodes / 9) window keys)
   unfolding order_in
   lists_every e = none_out (graph_in nodes (length nodes / 9)) window (key_at keys) (not_out e)
 
-  numbers_every : schedule_fault nodes outputs window keys ready successors order ≡ Sound → length (order_in nodes (length nodes / 9) window keys) ≡ length (cells_of (graph_in nodes (length nodes / 9)))
+  numbers_every : schedule_fault nodes outputs window keys ready successors order ≡ Ok tt → length (order_in nodes (length nodes / 9) window keys) ≡ length (cells_of (graph_in nodes (length nodes / 9)))
   unfolding order_in
   numbers_every e = no_circle_count (graph_in nodes (length nodes / 9)) window (key_at keys) at_least_one (no_circle_in e)
 
-  stored : topological_fault nodes outputs ≡ Sound → window ≡ 1 → order_in nodes (length nodes / 9) window keys ≡ cells_of (graph_in nodes (length nodes / 9))
+  stored : topological_fault nodes outputs ≡ Ok tt → window ≡ 1 → order_in nodes (length nodes / 9) window keys ≡ cells_of (graph_in nodes (length nodes / 9))
   unfolding order_in
   stored valid one = rw one (window_one (graph_in nodes (length nodes / 9)) (key_at keys) (validated_forward nodes outputs valid))
 

@@ -1,44 +1,49 @@
 -- The pieces put together: the cells counted, and the order in its area.
 -- Assumes nothing.
-use Prim.Native.Nat.{ℕ, ◌+◌, ◌-◌, ◌*◌, ◌≤◌, ◌<◌}
+use Prim.Native.Nat.{ℕ, ◌+◌, ◌-◌, ◌*◌}
 use mathlib.Core.Path.{◌≡◌, sym, ap, ap₂, ◌∙◌}
 use mathlib.Core.Logic.{◌≢◌}
-use mathlib.Core.List.{List, [], ◌++◌}
+use mathlib.Core.Bool.{Bool, true, false}
+use mathlib.Core.List.{List, [], ◌∷◌, ◌++◌}
 use native.Mathlib.Omega.{arith}
-use lib.ListN.{length, get_or, drop, replicate, length-replicate, take-append-drop}
+use lib.ListN.{length, get_or, drop, replicate, length-replicate, length-append, take-append-drop}
 use borrow.Author.Tests.{ne_eqb, eq-eqb}
-use Rattle.laws.specs.Lists.{numbers}
+use Rattle.laws.specs.Lists.{numbers, keep}
 use Rattle.circuit.specs.Graph.{is_cell, cells_of}
 use Rattle.schedule.specs.Call.{graph_in, order_in}
-use Rattle.schedule.specs.Areas.{cell_at, source_of, Running, Startable, Scheduled, Filled, Listed}
+use Rattle.schedule.specs.Areas.{cell_at, one, source_of, Running, Startable, Scheduled, Filled, Listed}
 use Rattle.laws.proofs.Lists.{numbers_same}
 use Rattle.laws.proofs.Areas.{drop-replicate}
 use Rattle.schedule.proofs.Records.{length_in, cell-is}
-use Rattle.schedule.proofs.Scan.{numbers_at}
+use Rattle.schedule.proofs.WindowOne.{numbers-append}
 
-pub cells_are : (nodes : List ℕ) (n : ℕ) → length (numbers (cell_at nodes) 0 n) ≡ length (cells_of (graph_in nodes n))
+cells_are : (nodes : List ℕ) (n : ℕ) → length (numbers (cell_at nodes) 0 n) ≡ length (cells_of (graph_in nodes n))
 unfolding cells_of
 cells_are nodes n =
     let e = length_in nodes n in
     sym (ap length (ap (numbers (is_cell (graph_in nodes n)) 0) e ∙ numbers_same (cell_at nodes) (is_cell (graph_in nodes n)) 0 n (λ k a b. cell-is nodes n k (omega arith))))
 
--- a turn of the count, from the last node down
-pub count_cell : (nodes : List ℕ) (n i cells : ℕ) → i ≤ n → 0 < i → cells ≡ length (numbers (cell_at nodes) i (n - i)) → get_or nodes (9 * (i - 1)) 0 ≡ 2 → cells + 1 ≡ length (numbers (cell_at nodes) (i - 1) (n - (i - 1)))
-unfolding cell_at
-count_cell nodes n i cells a b e h =
-    let j : i - 1 + 1 ≡ i = omega arith in
-    rw (numbers_at (cell_at nodes) n (i - 1) (omega arith), eq-eqb (get_or nodes (9 * (i - 1)) 0) 2 h, j) (omega arith)
+-- a turn of the count
+count_more : (p : ℕ → Bool) (i cells : ℕ) → cells ≡ length (numbers p 0 i) → (t : Bool) → p i ≡ t → cells + one t ≡ length (numbers p 0 (i + 1))
+unfolding numbers
+count_more p i cells e t h =
+    let z : 0 + i ≡ i = omega arith in
+    rw (numbers-append p 0 i 1, z, h) (last t)
+  where
+    last : (t : Bool) → cells + one t ≡ length (numbers p 0 i ++ keep t i [])
+    last true = rw (length-append (numbers p 0 i) (i ∷ [])) (omega arith)
+    last false = rw (length-append (numbers p 0 i) []) (omega arith)
 
-pub count_input : (nodes : List ℕ) (n i cells : ℕ) → i ≤ n → 0 < i → cells ≡ length (numbers (cell_at nodes) i (n - i)) → get_or nodes (9 * (i - 1)) 0 ≢ 2 → cells ≡ length (numbers (cell_at nodes) (i - 1) (n - (i - 1)))
+pub count_cell : (nodes : List ℕ) (i cells : ℕ) → cells ≡ length (numbers (cell_at nodes) 0 i) → get_or nodes (9 * i) 0 ≡ 2 → cells + 1 ≡ length (numbers (cell_at nodes) 0 (i + 1))
 unfolding cell_at
-count_input nodes n i cells a b e h =
-    let j : i - 1 + 1 ≡ i = omega arith in
-    rw (numbers_at (cell_at nodes) n (i - 1) (omega arith), ne_eqb (get_or nodes (9 * (i - 1)) 0) 2 h, j) e
+count_cell nodes i cells e h = count_more (cell_at nodes) i cells e true (eq-eqb (get_or nodes (9 * i) 0) 2 h)
 
-pub counted : (nodes : List ℕ) (n i cells : ℕ) → cells ≡ length (numbers (cell_at nodes) i (n - i)) → i ≡ 0 → cells ≡ length (cells_of (graph_in nodes n))
-counted nodes n i cells e z =
-    let m : n - 0 ≡ n = omega arith in
-    e ∙ ap (λ (k : ℕ). length (numbers (cell_at nodes) k (n - k))) z ∙ ap (λ (k : ℕ). length (numbers (cell_at nodes) 0 k)) m ∙ cells_are nodes n
+pub count_input : (nodes : List ℕ) (i cells : ℕ) → cells ≡ length (numbers (cell_at nodes) 0 i) → get_or nodes (9 * i) 0 ≢ 2 → cells ≡ length (numbers (cell_at nodes) 0 (i + 1))
+unfolding cell_at
+count_input nodes i cells e h = omega (arith, count_more (cell_at nodes) i cells e false (ne_eqb (get_or nodes (9 * i) 0) 2 h))
+
+pub counted : (nodes : List ℕ) (n i : ℕ) → i ≡ n → length (numbers (cell_at nodes) 0 i) ≡ length (cells_of (graph_in nodes n))
+counted nodes n i e = ap (λ (k : ℕ). length (numbers (cell_at nodes) 0 k)) e ∙ cells_are nodes n
 
 pub started_is : (nodes : List ℕ) (count : ℕ) (area next : List ℕ) → Running (source_of nodes) (graph_in nodes count) [] area next → Startable count area next
 started_is nodes count area next run = record { src = source_of nodes; circuit = graph_in nodes count; size = length_in nodes count; running = run }

@@ -1,6 +1,6 @@
 -- The limit moves: the greatest ready node leaves the tree, or the next enters; and the step's pick among those below it.
 -- Assumes nothing.
-use Prim.Native.Nat.{ℕ, ◌+◌, ◌-◌, ◌*◌, ◌/◌, ◌≤◌, ◌<◌, min}
+use Prim.Native.Nat.{ℕ, suc, ◌+◌, ◌-◌, ◌*◌, ◌/◌, ◌≤◌, ◌<◌, min}
 use mathlib.Core.Path.{◌≡◌, refl, sym, ap, ◌∙◌}
 use mathlib.Core.Logic.{◌⊎◌, inl, inr, ◌≢◌}
 use mathlib.Core.Bool.{Bool, true, false}
@@ -15,7 +15,9 @@ use Rattle.laws.specs.Lists.{numbers}
 use Rattle.laws.proofs.Parts.{part_rest}
 use Rattle.laws.proofs.Tests.{clash}
 use Rattle.laws.proofs.Lists.{numbers_same, numbers-empty, empty_of_length}
-use Rattle.readyset.specs.Sets.{member, Levels, First, Last}
+use Rattle.std.specs.Prelude.{Option, None, Some}
+use Rattle.std.specs.Option.{IsSome}
+use Rattle.readyset.specs.Sets.{member, Levels, First, FirstIs, Last, LastIs}
 use Rattle.schedule.specs.declared.waiting.ReadyCells.{ReadyCells}
 use Rattle.schedule.specs.declared.window.Window.{Window}
 use Rattle.schedule.specs.Schedule.{key_at, pick}
@@ -42,50 +44,45 @@ moved_limit n keys area mid r f levels ranked number inside =
 
 module _ (n : ℕ) (keys area : List ℕ) (at : Window) (t : Tracked n keys area at) where
   -- the greatest below the limit
-  module _ (some : 1 ≤ at.inside) (e : ℕ) (last : Last (member (take (length area - 2 * n) (drop (2 * n) area))) at.limit e) where
-    end : Last (member (drop (2 * n) area)) at.limit e
-    end = rw (part_rest (2 * n) area) at last
+  module _ (some : 1 ≤ at.inside) where
+    pub last_some : (r : Option ℕ) → LastIs (member (take (length area - 2 * n) (drop (2 * n) area))) at.limit r → IsSome r
+    last_some (Some x) last = refl
+    last_some None last =
+        let end : Last (member (drop (2 * n) area)) at.limit 0 = rw (part_rest (2 * n) area) at last in
+        let z : length (numbers (member (drop (2 * n) area)) 0 at.limit) ≡ 0 = ap length (numbers-empty (member (drop (2 * n) area)) 0 at.limit (λ j a b. end.none j a (omega arith))) in
+        absurd (omega (arith, t.inside, z))
 
-    pub end_some : 1 ≤ e
-    end_some = go (ltb 0 e) refl
-      where
-        go : (b : Bool) → ltb 0 e ≡ b → 1 ≤ e
-        go true q = ltb-true 0 e q
-        go false q =
-            let z : length (numbers (member (drop (2 * n) area)) 0 at.limit) ≡ 0 = ap length (numbers-empty (member (drop (2 * n) area)) 0 at.limit (λ j a b. end.none j (omega (arith, ltb-false 0 e q)) (omega arith))) in
-            absurd (omega (arith, t.inside, z))
+    module _ (e : ℕ) (last : Last (member (take (length area - 2 * n) (drop (2 * n) area))) at.limit (suc e)) where
+      end : Last (member (drop (2 * n) area)) at.limit (suc e)
+      end = rw (part_rest (2 * n) area) at last
 
-    is_last : member (drop (2 * n) area) (e - 1) ≡ true
-    is_last = end.here (e - 1) (omega (arith, end_some))
+      pub end_below : e < n
+      end_below = omega (arith, end.upto, t.ranked.bound)
 
-    pub end_below : e - 1 < n
-    end_below = omega (arith, end_some, end.upto, t.ranked.bound)
+      pub shrunk_stale : Ranked n e keys area (e / 64)
+      shrunk_stale = ranked_limit n at.limit keys area e (e / 64) t.ranked (omega (arith, end_below)) (λ k d h l. below k d h l (ltb k (suc e)) refl) (λ k d h l. omega (arith, end.upto))
+        where
+          below : (k : ℕ) → k / 64 ≢ e / 64 → member (drop (2 * n) area) k ≡ true → k < at.limit → (b : Bool) → ltb k (suc e) ≡ b → k < e
+          below k d h l true q = let u : k ≢ e = λ z. d (ap (λ (i : ℕ). i / 64) z) in omega (arith, ltb-true k (suc e) q, u)
+          below k d h l false q = absurd (clash h (end.none k (ltb-false k (suc e) q) l))
 
-    pub shrunk_stale : Ranked n (e - 1) keys area ((e - 1) / 64)
-    shrunk_stale = ranked_limit n at.limit keys area (e - 1) ((e - 1) / 64) t.ranked (omega (arith, end_below)) (λ k d h l. below k d h l (ltb k e) refl) (λ k d h l. omega (arith, end.upto))
-      where
-        below : (k : ℕ) → k / 64 ≢ (e - 1) / 64 → member (drop (2 * n) area) k ≡ true → k < at.limit → (b : Bool) → ltb k e ≡ b → k < e - 1
-        below k d h l true q = let u : k ≢ e - 1 = λ z. d (ap (λ (i : ℕ). i / 64) z) in omega (arith, ltb-true k e q, u)
-        below k d h l false q = absurd (clash h (end.none k (ltb-false k e q) l))
-
-    pub shrunk : (mid : List ℕ) → Fronted n area mid → Ranked n (e - 1) keys mid (n / 64 + 1) → (r : Window) → r.limit ≡ e - 1 → r.inside ≡ at.inside - 1 → r.number ≡ at.number → Tracked n keys mid r
-    shrunk mid f ranked r limit inside number =
-        moved_limit n keys area mid r f t.levels (rw limit ranked) (number ∙ t.number)
-        (rw limit (omega (arith, inside, t.inside, count_one (member (drop (2 * n) area)) (e - 1) at.limit (omega (arith, end.upto)) (e - 1) (omega arith) (omega (arith, end_some, end.upto)) is_last (λ j a b d. end.none j (omega (arith, d)) b))))
+      pub shrunk : (mid : List ℕ) → Fronted n area mid → Ranked n e keys mid (n / 64 + 1) → (r : Window) → r.limit ≡ e → r.inside ≡ at.inside - 1 → r.number ≡ at.number → Tracked n keys mid r
+      shrunk mid f ranked r limit inside number =
+          moved_limit n keys area mid r f t.levels (rw limit ranked) (number ∙ t.number)
+          (rw limit (omega (arith, inside, t.inside, count_one (member (drop (2 * n) area)) e at.limit (omega (arith, end.upto)) e (omega arith) (omega (arith, end.upto)) (end.here e refl) (λ j a b d. end.none j (omega (arith, d)) b))))
 
   -- the first from the limit on
-  module _ (more : at.inside < at.number) (node : ℕ) (first : First (member (take (length area - 2 * n) (drop (2 * n) area))) at.limit n node) where
+  module _ (more : at.inside < at.number) where
+    pub next_some : (r : Option ℕ) → FirstIs (member (take (length area - 2 * n) (drop (2 * n) area))) at.limit n r → IsSome r
+    next_some (Some x) first = refl
+    next_some None first =
+        let begin : First (member (drop (2 * n) area)) at.limit n n = rw (part_rest (2 * n) area) at first in
+        let z = count_none (member (drop (2 * n) area)) at.limit n t.ranked.bound (λ j a b. begin.none j a b b) in
+        absurd (omega (arith, t.number, t.inside, z))
+
+  module _ (more : at.inside < at.number) (node : ℕ) (next_below : node < n) (first : First (member (take (length area - 2 * n) (drop (2 * n) area))) at.limit n node) where
     begin : First (member (drop (2 * n) area)) at.limit n node
     begin = rw (part_rest (2 * n) area) at first
-
-    pub next_below : node < n
-    next_below = go (ltb node n) refl
-      where
-        go : (b : Bool) → ltb node n ≡ b → node < n
-        go true q = ltb-true node n q
-        go false q =
-            let z = count_none (member (drop (2 * n) area)) at.limit n t.ranked.bound (λ j a b. begin.none j a (omega (arith, ltb-false node n q)) b) in
-            absurd (omega (arith, t.number, t.inside, z))
 
     pub grown_stale : Ranked n (node + 1) keys area (node / 64)
     grown_stale = ranked_limit n at.limit keys area (node + 1) (node / 64) t.ranked (omega (arith, next_below)) (λ k d h l. omega (arith, begin.from)) (λ k d h l. below k d h l (ltb k at.limit) refl)

@@ -1,6 +1,6 @@
 -- Which of two nodes is taken first, and of two entries the better: the entry of two sets together.
 -- Assumes nothing.
-use Prim.Native.Nat.{ℕ, zero, suc, ◌+◌, ◌-◌, ◌≤◌, ◌<◌}
+use Prim.Native.Nat.{ℕ, zero, suc, ◌+◌, ◌-◌, ◌≤◌, ◌<◌, min, max}
 use mathlib.Core.Path.{◌≡◌, refl, sym, ap, subst, ◌∙◌}
 use mathlib.Core.Logic.{◌⊎◌, inl, inr}
 use mathlib.Core.Bool.{Bool, true, false, cond}
@@ -148,6 +148,13 @@ module _ (key : ℕ → Key) where
       let p : suc x - 1 ≡ x = omega arith in
       let q : suc y - 1 ≡ y = omega arith in
       rw (le-ltb x y (omega arith)) (add-one r ∙ ap suc (rw (p, q) at e))
+
+  pub ahead_of : (a b r : ℕ) → (a ≡ 0 → ⊥) → (b ≡ 0 → ⊥) → r ≡ cond (above (key (max a b - 1)) (key (min a b - 1))) (max a b - 1) (min a b - 1) → r + 1 ≡ ahead key a b
+  ahead_of a b r h n e = go (ltb a b) refl
+    where
+      go : (t : Bool) → ltb a b ≡ t → r + 1 ≡ ahead key a b
+      go true q = let l = ltb-true a b q in let p : min a b ≡ a = omega arith in let w : max a b ≡ b = omega arith in ahead_up a b r h l (rw (p, w) at e)
+      go false q = let l = ltb-false a b q in let p : min a b ≡ b = omega arith in let w : max a b ≡ a = omega arith in ahead_down a b r h n l (rw (p, w) at e)
 
   -- no entry is above both
   pub ahead_bound : (a b m : ℕ) → a ≤ m → b ≤ m → ahead key a b ≤ m

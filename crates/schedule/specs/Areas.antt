@@ -1,7 +1,7 @@
 -- What the ready and successor areas hold while the cells are taken: for each node the reads that wait and the first read of its
 -- chain, then the set of ready nodes; for each read the next read of the same cell.
 -- Assumes nothing.
-use Rattle.std.specs.Prelude.{ℕ, zero, suc, ◌+◌, ◌-◌, ◌*◌, ◌/◌, ◌%◌, ◌^◌, ◌≤◌, ◌<◌, ◌≡◌, ◌≢◌, Bool, true, false, not, cond, ◌||◌, ◌&&◌, List, [], ◌∷◌, ◌++◌, eqb, ltb, leb, length, get_or, set, take, drop, replicate}
+use Rattle.std.specs.Prelude.{ℕ, zero, suc, ◌+◌, ◌-◌, ◌*◌, ◌/◌, ◌%◌, ◌^◌, ◌≤◌, ◌<◌, ◌≡◌, ◌≢◌, Bool, true, false, not, cond, ◌||◌, ◌&&◌, List, [], ◌∷◌, ◌++◌, eqb, ltb, leb, length, get_or, set, take, drop, replicate, Option, None, Some}
 use Rattle.std.proofs.Math.Option.{some}
 use Rattle.laws.specs.Lists.{numbers}
 use Rattle.circuit.specs.Graph.{Vertex, is_cell, waits, ready}
@@ -42,6 +42,11 @@ only_cell nodes (suc (suc x)) = cond (eqb (get_or nodes (9 * x) 0) 2) (suc x) 0
 unfoldable pub source_of : List ℕ → ℕ → ℕ
 unfolding wire_at
 source_of nodes e = only_cell nodes (wire_at nodes ((e - 1) / 2) ((e - 1) % 2))
+
+-- the same of a cell, if there is one
+abbrev pub entry_of : Option ℕ → ℕ
+entry_of None = 0
+entry_of (Some x) = suc x
 
 -- "records chained by a next index, zero ends the chain": the last read, up to number m, of the cell x; 0 where there is none
 unfoldable pub last_of : (ℕ → ℕ) → ℕ → ℕ → ℕ

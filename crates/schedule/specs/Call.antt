@@ -1,26 +1,24 @@
 -- The call: its answer, and what every lent area holds after it.
 -- Assumes nothing.
-use Rattle.std.specs.Prelude.{ℕ, ◌+◌, ◌-◌, ◌*◌, ◌/◌, Bool, not, ◌&&◌, List, ◌++◌, eqb, leb, length, replicate}
+use Rattle.circuit.specs.declared.refusals.Refusal.{Refusal}
+use Rattle.std.specs.Prelude.{ℕ, ◌+◌, ◌-◌, ◌*◌, ◌/◌, Bool, not, ◌&&◌, List, ◌++◌, eqb, leb, length, replicate, Err, Ok, Result}
 use Rattle.laws.specs.Lists.{elem, some}
 use Rattle.circuit.specs.declared.refusals.Refusal.TheVariants.{NoWindow, WrongValues, NoRoom, Circle}
-use Rattle.circuit.specs.declared.refusals.Checked.{Checked}
-use Rattle.circuit.specs.declared.refusals.Checked.TheVariants.{Sound, Refused}
+use Rattle.circuit.specs.Refusals.{Checked}
 use Rattle.circuit.specs.Refusals.{number_of, refuse_if, first_fault}
 use Rattle.circuit.specs.Records.{nodes_of}
 use Rattle.circuit.specs.Check.{records_fault}
 use Rattle.circuit.specs.Graph.{Vertex, graph_of, cells_of}
-use Rattle.schedule.specs.declared.Ordered.{Ordered}
-use Rattle.schedule.specs.declared.Ordered.TheVariants.{Cells, Refused as Not}
 use Rattle.schedule.specs.Schedule.{key_at, schedule_of}
 
 -- 01's number of an answer, and the number of cells that it gives: "A refusal returns its number, any other result 0"
-abbrev pub ordered_number : Ordered → ℕ
-ordered_number (Cells m) = 0
-ordered_number (Not e) = number_of e
+abbrev pub ordered_number : (Result ℕ Refusal) → ℕ
+ordered_number (Ok m) = 0
+ordered_number (Err e) = number_of e
 
-abbrev pub ordered_cells : Ordered → ℕ
-ordered_cells (Cells m) = m
-ordered_cells (Not e) = 0
+abbrev pub ordered_cells : (Result ℕ Refusal) → ℕ
+ordered_cells (Ok m) = m
+ordered_cells (Err e) = 0
 
 -- the graph of the first n records
 unfoldable pub graph_in : List ℕ → ℕ → List Vertex
@@ -55,23 +53,23 @@ schedule_fault nodes outputs window keys ready successors order =
     first_fault (call_fault nodes outputs window keys ready successors order) (circle_fault nodes (length nodes / 9) window keys)
 
 -- "The number of cells is returned"
-abbrev pub answer_of : Checked → ℕ → Ordered
-answer_of Sound cells = Cells cells
-answer_of (Refused e) cells = Not e
+abbrev pub answer_of : Checked → ℕ → (Result ℕ Refusal)
+answer_of (Ok u) cells = Ok cells
+answer_of (Err e) cells = Err e
 
 -- "the order is that many first records of its area", zeros after it; a refusal "zeros every area lent for writing"
 abbrev pub order_area : Checked → List ℕ → ℕ → List ℕ
-order_area Sound order size = order ++ replicate (size - length order) 0
-order_area (Refused e) order size = replicate size 0
+order_area (Ok u) order size = order ++ replicate (size - length order) 0
+order_area (Err e) order size = replicate size 0
 
 -- what a call leaves: "The .. ready and successor areas .. are work areas, zero after any call"
 pub record Left : Type 0 where
-  pub answer : Ordered
+  pub answer : (Result ℕ Refusal)
   pub ready : List ℕ
   pub successors : List ℕ
   pub order : List ℕ
 
-abbrev pub leaves : Ordered → List ℕ → List ℕ → List ℕ → Left
+abbrev pub leaves : (Result ℕ Refusal) → List ℕ → List ℕ → List ℕ → Left
 leaves answer ready successors order = record { answer = answer; ready = ready; successors = successors; order = order }
 
 -- the areas, by their sizes, after a call with this fault

@@ -2,14 +2,9 @@
 -- Assumes nothing.
 use Rattle.std.specs.Prelude.{ℕ, ◌-◌, ◌≡◌, ◌⊎◌, true, List, [], length, take}
 use Rattle.circuit.specs.Graph.{Vertex, fit}
-use Rattle.schedule.specs.declared.waiting.ReadyCells.{ReadyCells}
-use Rattle.schedule.specs.declared.taking.Taken.{Taken}
 use Rattle.schedule.specs.declared.window.Window.{Window}
 use Rattle.schedule.specs.Schedule.{key_at, schedule_from, schedule_of}
 use Rattle.schedule.specs.Areas.{Running, Startable, Scheduled}
-
-abbrev pub ready_of : Taken → ReadyCells
-ready_of t = record { from = t.from; number = t.number }
 
 -- none of the ready nodes are below the limit, or all
 pub record FirstWindow (count number : ℕ) (at : Window) : Type 0 where

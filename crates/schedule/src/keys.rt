@@ -1,26 +1,14 @@
 // Keys: three numbers for each node, compared number by number.
+// The keys and the count of nodes stay two parameters: over a struct of both each clause would read `keys.entry.words.now` and `keys.entry.count`, no plainer.
 ghost use Rattle.std.specs.Prelude.{◌≡◌, cond, ◌+◌, ◌*◌, ◌<◌, length};
 ghost use Rattle.schedule.specs.Schedule.{above, key_at};
 ghost use Rattle.schedule.specs.Areas.{key_of};
 
-#[derive(Clone, Copy)]
+#[derive(Clone, Copy, Debug, PartialEq, Eq, PartialOrd, Ord)]
 pub struct Key {
     pub first: u32,
     pub second: u32,
     pub third: u32,
-}
-
-// Whether the key a is greater than b, number by number.
-pub fn greater(a: Key, b: Key) -> bool
-    ensures { result ≡ above (key_of a) (key_of b) }
-{
-    if a.first != b.first {
-        return b.first < a.first;
-    }
-    if a.second != b.second {
-        return b.second < a.second;
-    }
-    b.third < a.third
 }
 
 // The key of a node.
@@ -36,22 +24,31 @@ pub fn key_at(keys: &[u32], node: usize) -> Key
     }
 }
 
-// A node with its key.
+// A node with its key, which is kept beside it while others are compared with it.
 #[derive(Clone, Copy)]
 pub struct Best {
     pub node: usize,
     pub key: Key,
 }
 
-// Of two nodes the one of the greater key, the first on equal keys. The key of the best so far is kept beside it.
-pub fn better(keys: &[u32], best: Best, node: usize) -> Best
-    requires { (3 * node + 2 < length keys.now) × (key_of best.key ≡ key_at keys.now best.node) }
-    ensures { (result.node ≡ cond (above (key_at keys.now node) (key_at keys.now best.node)) node best.node) × (key_of result.key ≡ key_at keys.now result.node) }
-{
-    let key = key_at(keys, node);
-    let old = best.key;
-    if greater(key, old) {
-        return Best { node, key };
+impl Best {
+    // A first node.
+    pub fn of(keys: &[u32], node: usize) -> Best
+        requires { 3 * node + 2 < length keys.now }
+        ensures { (result.node ≡ node) × (key_of result.key ≡ key_at keys.now node) }
+    {
+        Best {
+            node,
+            key: key_at(keys, node),
+        }
     }
-    best
+
+    // Of this node and one after it the one of the greater key, this one on equal keys.
+    pub fn better(self, keys: &[u32], node: usize) -> Best
+        requires { (3 * node + 2 < length keys.now) × (key_of self.key ≡ key_at keys.now self.node) }
+        ensures { (result.node ≡ cond (above (key_at keys.now node) (key_at keys.now self.node)) node self.node) × (key_of result.key ≡ key_at keys.now result.node) }
+    {
+        let other = Best::of(keys, node);
+        if other.key > self.key { other } else { self }
+    }
 }

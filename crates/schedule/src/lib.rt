@@ -6,7 +6,7 @@ ghost use Rattle.std.specs.Prelude.{◌≡◌};
 ghost use Rattle.schedule.specs.Call.{leaves, schedule_call};
 
 use crate::ordering::{call_fault, clear_all, order_or_circle};
-use circuit::refusals::{Checked, Refusal};
+use circuit::refusals::Refusal;
 
 pub mod keys;
 pub mod ordering;
@@ -18,12 +18,6 @@ pub mod tree;
 pub mod waiting;
 pub mod window;
 
-#[derive(Clone, Copy)]
-pub enum Ordered {
-    Cells(usize),
-    Refused(Refusal),
-}
-
 // The order of the cells in the first records of `order`, and how many they are; 15, 18, 19, 3, 17.
 pub fn scheduled_gates_by_key(
     nodes: &[usize],
@@ -33,7 +27,7 @@ pub fn scheduled_gates_by_key(
     ready: &mut [usize],
     successors: &mut [usize],
     order: &mut [usize],
-) -> Ordered
+) -> Result<usize, Refusal>
     ensures { leaves result ready.new successors.new order.new ≡ schedule_call nodes.now outputs.now window keys.now ready.old successors.old order.old }
 {
     let fault = call_fault(
@@ -46,10 +40,10 @@ pub fn scheduled_gates_by_key(
         order.len(),
     );
     match fault {
-        Checked::Refused(e) => {
+        Ok(()) => order_or_circle(nodes, keys, window, ready, successors, order),
+        Err(e) => {
             clear_all(ready, successors, order);
-            Ordered::Refused(e)
+            Err(e)
         }
-        Checked::Sound => order_or_circle(nodes, keys, window, ready, successors, order),
     }
 }

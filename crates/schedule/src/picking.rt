@@ -1,12 +1,12 @@
 // A step's pick: among the smallest ready nodes, the one of the greatest key.
-ghost use Rattle.std.specs.Prelude.{◌≡◌, ◌+◌, ◌*◌, ◌<◌, ◌≤◌, min, length, take, drop};
+ghost use Rattle.std.specs.Prelude.{◌≡◌, ◌+◌, ◌*◌, ◌<◌, ◌≤◌, length, take, drop, MatchOption};
 ghost use Rattle.std.proofs.Math.Option.{some};
 ghost use Rattle.laws.specs.Lists.{numbers};
 ghost use Rattle.readyset.specs.Sets.{member, Levels, First};
 ghost use Rattle.schedule.specs.Schedule.{key_at, pick};
 ghost use Rattle.schedule.specs.Areas.{Counted, PickedIs, RestIs};
 
-use crate::keys::{Best, better, key_at};
+use crate::keys::Best;
 use crate::waiting::ReadyCells;
 
 #[derive(Clone, Copy)]
@@ -23,25 +23,19 @@ pub struct Seen {
 }
 
 // The first member from i on, where `rest` has the bits of the word of i from i on, or is 0: mostly the next one is among them.
-pub fn see(set: &[usize], nodes: usize, i: usize, rest: usize) -> Seen
+pub fn see(set: &[usize], nodes: usize, i: usize, rest: usize) -> Option<Seen>
     requires { (nodes ≤ length set.now) × (i ≤ nodes) × Levels set.now nodes × RestIs set.now i rest }
-    ensures { First (member set.now) i nodes result.node × ((result.node < nodes) → RestIs set.now (result.node + 1) result.rest) }
+    ensures { MatchOption result (First (member set.now) i nodes nodes) (λ s. (s.node < nodes) × First (member set.now) i nodes s.node × RestIs set.now (s.node + 1) s.rest) }
 {
     if rest != 0 {
-        let t = usize::trailing_zeros(rest) as usize;
-        return Seen {
-            node: i + t,
-            rest: (rest >> t) >> 1,
-        };
+        let t = rest.trailing_zeros() as usize;
+        let node = i + t;
+        let rest = (rest >> t) >> 1;
+        return (node < nodes).then_some(Seen { node, rest });
     }
-    let node = readyset::next(set, nodes, i);
-    if nodes <= node {
-        return Seen { node, rest: 0 };
-    }
-    Seen {
-        node,
-        rest: (set[node / 64] >> (node % 64)) >> 1,
-    }
+    let node = readyset::next(set, nodes, i)?;
+    let rest = (set[node / 64] >> (node % 64)) >> 1;
+    Some(Seen { node, rest })
 }
 
 // Among the `window` smallest members of the set, of which `first` is the smallest, the one of the greatest key.
@@ -49,32 +43,18 @@ pub fn pick_ready(set: &[usize], keys: &[u32], nodes: usize, window: usize, firs
     requires { (nodes ≤ length set.now) × (3 * nodes ≤ length keys.now) × Levels set.now nodes × (1 ≤ window) × (first < nodes) × First (member set.now) 0 nodes first }
     ensures { some result ≡ pick (key_at keys.now) (take window (numbers (member set.now) 0 nodes)) }
 {
+    let mut best = Best::of(keys, first);
     let mut i = first + 1;
-    let mut found = 1;
-    let key = key_at(keys, first);
-    let mut best = Best { node: first, key };
     let mut rest = 0;
-    while found < window {
-        let seen = see(set, nodes, i, rest);
-        let node = seen.node;
-        if nodes <= node {
+    for _found in 1..window {
+        let Some(seen) = see(set, nodes, i, rest) else {
             break;
-        }
-        best = better(keys, best, node);
-        found += 1;
-        i = node + 1;
+        };
+        best = best.better(keys, seen.node);
+        i = seen.node + 1;
         rest = seen.rest;
     }
     best.node
-}
-
-pub fn least(a: usize, b: usize) -> usize
-    ensures { result ≡ min a b }
-{
-    if a < b {
-        return a;
-    }
-    b
 }
 
 // The same over the ready area, where the set of ready nodes follows two words for each node.
@@ -89,8 +69,8 @@ pub fn pick_next(
     ensures { PickedIs count area.now keys.now window result }
 {
     let from = 2 * count;
-    let first = readyset::next(&area[from..], count, cells.from);
-    let most = least(window, cells.number);
+    let first = readyset::next(&area[from..], count, cells.from).unwrap();
+    let most = window.min(cells.number);
     let node = pick_ready(&area[from..], keys, count, most, first);
     Picked { node, first }
 }

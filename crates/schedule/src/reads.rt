@@ -1,6 +1,6 @@
 // The reads of the cells: what each reads, and the chains of the reads of a cell.
 ghost use Rattle.std.specs.Prelude.{◌≡◌, ℕ, ◌+◌, ◌*◌, ◌<◌, ◌≤◌, length, get_or, drop};
-ghost use Rattle.schedule.specs.Areas.{wire_at, Wired, source_of, head_set, next_set, Linked, linked, both};
+ghost use Rattle.schedule.specs.Areas.{wire_at, Wired, source_of, head_set, next_set, Linked, linked, both, entry_of};
 
 // The word of the wire at a position of a cell, 0 where there is none.
 pub fn wire_at(nodes: &[usize], node: usize, position: usize) -> usize
@@ -8,40 +8,30 @@ pub fn wire_at(nodes: &[usize], node: usize, position: usize) -> usize
     ensures { result ≡ wire_at nodes.now node position }
 {
     let at = 9 * node;
-    if nodes[at] != 2 {
-        return 0;
-    }
-    if nodes[at + 1] <= position {
+    if nodes[at] != 2 || nodes[at + 1] <= position {
         return 0;
     }
     nodes[at + 7 + position]
 }
 
-// What a read reads: 0 no cell, x + 1 the cell x.
-pub fn source(nodes: &[usize], count: usize, edge: usize) -> usize
+// The cell that a read reads, if it reads one.
+pub fn source(nodes: &[usize], count: usize, edge: usize) -> Option<usize>
     requires { (1 ≤ edge) × (edge ≤ 2 * count) × (9 * count ≤ length nodes.now) × Wired nodes.now count }
-    ensures { result ≡ source_of nodes.now edge }
+    ensures { entry_of result ≡ source_of nodes.now edge }
 {
-    let wire = wire_at(nodes, (edge - 1) / 2, (edge - 1) % 2);
-    if wire < 2 {
-        return 0;
-    }
-    let at = 9 * (wire - 2);
-    if nodes[at] != 2 {
-        return 0;
-    }
-    wire - 1
+    let node = wire_at(nodes, (edge - 1) / 2, (edge - 1) % 2).checked_sub(2)?;
+    (nodes[9 * node] == 2).then_some(node)
 }
 
 // Puts a read at the front of its source's chain.
-pub fn link(area: &mut [usize], next: &mut [usize], edge: usize, from: usize)
-    requires { (3 * from ≤ length area.old) × (edge < length next.old) }
-    ensures { (area.new ≡ head_set area.old edge from) × (next.new ≡ next_set area.old next.old edge from) }
+pub fn link(area: &mut [usize], next: &mut [usize], edge: usize, from: Option<usize>)
+    requires { (3 * entry_of from ≤ length area.old) × (edge < length next.old) }
+    ensures { (area.new ≡ head_set area.old edge (entry_of from)) × (next.new ≡ next_set area.old next.old edge (entry_of from)) }
 {
-    if from == 0 {
+    let Some(cell) = from else {
         return;
-    }
-    let head = 2 * (from - 1) + 1;
+    };
+    let head = 2 * cell + 1;
     next[edge] = area[head];
     area[head] = edge;
 }
@@ -51,11 +41,9 @@ pub fn link_all(nodes: &[usize], count: usize, area: &mut [usize], next: &mut [u
     requires { (9 * count ≤ length nodes.now) × Wired nodes.now count × (3 * count ≤ length area.old) × (2 * count < length next.old) × ((x : ℕ) → x < count → get_or area.old (2 * x + 1) 0 ≡ 0) }
     ensures { Linked (source_of nodes.now) count (2 * count) area.new next.new × (drop (2 * count) area.new ≡ drop (2 * count) area.old) }
 {
-    let mut done = 0;
-    while done < 2 * count {
+    for done in 0..2 * count {
         let from = source(nodes, count, done + 1);
         link(area, next, done + 1, from);
-        done += 1;
     }
 }
 
@@ -66,14 +54,5 @@ pub fn cells_read(nodes: &[usize], count: usize, node: usize) -> usize
 {
     let first = source(nodes, count, 2 * node + 1);
     let second = source(nodes, count, 2 * node + 2);
-    if first == 0 {
-        if second == 0 {
-            return 0;
-        }
-        return 1;
-    }
-    if second == 0 {
-        return 1;
-    }
-    2
+    usize::from(first.is_some()) + usize::from(second.is_some())
 }

@@ -8,77 +8,64 @@ use crate::tree::refresh;
 use crate::waiting::{ReadyCells, lower, mark_ready};
 use crate::window::Window;
 
-// One read less of the node waits; the last one makes it ready, and below the limit it enters the tree.
-pub fn lower_ranked(
-    area: &mut [usize],
-    keys: &[u32],
-    count: usize,
-    node: usize,
-    at: Window,
-) -> Window
-    requires { Tracked count keys.now area.old at × (node < count) × (member (drop (2 * count) area.old) node ≡ false) × (1 ≤ get_or area.old (2 * node) 0) × (3 * count ≤ length keys.now) }
-    ensures { Lowered count area.old node area.new × Tracked count keys.now area.new result × (result.limit ≡ at.limit) }
-{
-    let cells = ReadyCells {
-        from: 0,
-        number: at.number,
-    };
-    let left = lower(area, count, node, cells);
-    if area[2 * node] != 0 {
-        return at;
-    }
-    if at.limit <= node {
-        return Window {
-            limit: at.limit,
-            inside: at.inside,
-            number: left.number,
+impl Window {
+    // One read less of the node waits; the last one makes it ready, and below the limit it enters the tree.
+    pub fn lower(self, area: &mut [usize], keys: &[u32], count: usize, node: usize) -> Window
+        requires { Tracked count keys.now area.old self × (node < count) × (member (drop (2 * count) area.old) node ≡ false) × (1 ≤ get_or area.old (2 * node) 0) × (3 * count ≤ length keys.now) }
+        ensures { Lowered count area.old node area.new × Tracked count keys.now area.new result × (result.limit ≡ self.limit) }
+    {
+        let cells = ReadyCells {
+            from: 0,
+            number: self.number,
         };
+        let number = lower(area, count, node, cells).number;
+        if area[2 * node] != 0 {
+            return self;
+        }
+        if self.limit <= node {
+            return Window { number, ..self };
+        }
+        refresh(area, keys, count, self.limit, node / 64);
+        Window {
+            inside: self.inside + 1,
+            number,
+            ..self
+        }
     }
-    refresh(area, keys, count, at.limit, node / 64);
-    Window {
-        limit: at.limit,
-        inside: at.inside + 1,
-        number: left.number,
-    }
-}
 
-// Takes the ready node out of the set and out of the tree.
-pub fn unmark_ranked(
-    area: &mut [usize],
-    keys: &[u32],
-    count: usize,
-    node: usize,
-    at: Window,
-) -> Window
-    requires { Tracked count keys.now area.old at × (node < at.limit) × (member (drop (2 * count) area.old) node ≡ true) × (3 * count ≤ length keys.now) }
-    ensures { Moved false count area.old node area.new × Tracked count keys.now area.new result }
-{
-    mark_ready(area, count, node, false);
-    refresh(area, keys, count, at.limit, node / 64);
-    Window {
-        limit: at.limit,
-        inside: at.inside - 1,
-        number: at.number - 1,
+    // Takes the ready node out of the set and out of the tree.
+    pub fn unmark(self, area: &mut [usize], keys: &[u32], count: usize, node: usize) -> Window
+        requires { Tracked count keys.now area.old self × (node < self.limit) × (member (drop (2 * count) area.old) node ≡ true) × (3 * count ≤ length keys.now) }
+        ensures { Moved false count area.old node area.new × Tracked count keys.now area.new result }
+    {
+        mark_ready(area, count, node, false);
+        refresh(area, keys, count, self.limit, node / 64);
+        Window {
+            inside: self.inside - 1,
+            number: self.number - 1,
+            ..self
+        }
     }
-}
 
-// Takes the ready node: each cell that reads it waits for one read less, and it leaves the set and the tree.
-pub fn release_ranked(
-    area: &mut [usize],
-    next: &[usize],
-    keys: &[u32],
-    count: usize,
-    node: usize,
-    start: Window,
-) -> Window
-    requires { Releasable count area.old next.now node × Tracked count keys.now area.old start × (node < start.limit) × (3 * count ≤ length keys.now) }
-    ensures { Released count area.old next.now node area.new × Tracked count keys.now area.new result }
-{
-    let mut at = start;
-    let mut edge = area[2 * node + 1];
-    while edge != 0 {
-        at = lower_ranked(area, keys, count, (edge - 1) / 2, at);
-        edge = next[edge];
+    // Takes the ready node: each cell that reads it waits for one read less, and it leaves the set and the tree.
+    pub fn release(
+        self,
+        area: &mut [usize],
+        next: &[usize],
+        keys: &[u32],
+        count: usize,
+        node: usize,
+    ) -> Window
+        requires { Releasable count area.old next.now node × Tracked count keys.now area.old self × (node < self.limit) × (3 * count ≤ length keys.now) }
+        ensures { Released count area.old next.now node area.new × Tracked count keys.now area.new result }
+    {
+        let mut at = self;
+        // Words of a lent area, as the C interface fixes them: each read names the next of its chain, and zero ends it.
+        let mut edge = area[2 * node + 1];
+        while edge != 0 {
+            at = at.lower(area, keys, count, (edge - 1) / 2);
+            edge = next[edge];
+        }
+        at.unmark(area, keys, count, node)
     }
-    unmark_ranked(area, keys, count, node, at)
 }

@@ -3,38 +3,27 @@ ghost use Rattle.std.specs.Prelude.{◌≡◌, ◌≢◌, ◌+◌, ◌*◌, ◌<
 ghost use Rattle.circuit.specs.Graph.{cells_of};
 ghost use Rattle.schedule.specs.Call.{graph_in};
 ghost use Rattle.schedule.specs.Areas.{Wired, Counted, Startable, Scheduled, Filled, Listed};
-ghost use Rattle.readyset.specs.Sets.{Levels};
-ghost use Rattle.schedule.specs.Taking.{ready_of, FirstWindow, Took, Resumable, Finished};
-ghost use Rattle.schedule.specs.Tree.{Tracked, Fronted};
+ghost use Rattle.schedule.specs.Taking.{Took, Resumable, Finished};
+ghost use Rattle.schedule.specs.Tree.{Tracked};
 
-use crate::picking::{least, pick_next};
+use crate::picking::pick_next;
 use crate::reads::link_all;
-use crate::releasing::release_ranked;
-use crate::tree::rank;
 use crate::waiting::{ReadyCells, open_all, release};
-use crate::window::{Window, settle};
-use circuit::areas::clear;
+use crate::window::Window;
 
 // How many cells are taken, and what is known of the ready ones.
 #[derive(Clone, Copy)]
 pub struct Taken {
     pub taken: usize,
-    pub from: usize,
-    pub number: usize,
+    pub cells: ReadyCells,
 }
 
 // How many cells a step by scanning looks at, 0 where they are few.
 pub fn scanned(count: usize, window: usize, number: usize) -> usize
     ensures { result ≢ 0 → 64 ≤ count }
 {
-    if count < 64 {
-        return 0;
-    }
-    let most = least(window, number);
-    if most <= 32 {
-        return 0;
-    }
-    most
+    let most = window.min(number);
+    if count < 64 || most <= 32 { 0 } else { most }
 }
 
 // Takes cell after cell by scanning the ready ones, until none is ready or too many have been looked at.
@@ -48,37 +37,27 @@ pub fn take_scanning(
     start: ReadyCells,
 ) -> Taken
     requires { Startable count area.old next.now × (3 * count ≤ length keys.now) × (count ≤ length order.old) × (1 ≤ window) × Counted count area.old start }
-    ensures { Took area.old next.now keys.now count window result.taken order.new area.new × (result.taken ≤ length order.new) × (drop result.taken order.new ≡ drop result.taken order.old) × Counted count area.new (ready_of result) × ((result.number ≢ 0) → 64 ≤ count) }
+    ensures { Took area.old next.now keys.now count window result.taken order.new area.new × (result.taken ≤ length order.new) × (drop result.taken order.new ≡ drop result.taken order.old) × Counted count area.new result.cells × ((result.cells.number ≢ 0) → 64 ≤ count) }
 {
     let mut taken = 0;
     let mut cells = start;
     let mut budget = count;
     while cells.number != 0 {
         let cost = scanned(count, window, cells.number);
-        if budget < cost {
+        let Some(left) = budget.checked_sub(cost) else {
             break;
-        }
-        budget -= cost;
+        };
+        budget = left;
         let picked = pick_next(area, keys, count, window, cells);
-        let node = picked.node;
-        order[taken] = node;
+        order[taken] = picked.node;
         taken += 1;
-        cells = release(
-            area,
-            next,
-            count,
-            node,
-            ReadyCells {
-                from: picked.first,
-                number: cells.number,
-            },
-        );
+        let from_first = ReadyCells {
+            from: picked.first,
+            ..cells
+        };
+        cells = release(area, next, count, picked.node, from_first);
     }
-    Taken {
-        taken,
-        from: cells.from,
-        number: cells.number,
-    }
+    Taken { taken, cells }
 }
 
 // The same by the tree of the best ready cells, until none is ready; returns how many are taken in all.
@@ -102,44 +81,10 @@ pub fn take_ranked(
         let node = area[root] - 1;
         order[taken] = node;
         taken += 1;
-        let left = release_ranked(area, next, keys, count, node, at);
-        at = settle(area, keys, count, window, left);
+        let left = at.release(area, next, keys, count, node);
+        at = left.settle(area, keys, count, window);
     }
     taken
-}
-
-// The ready cells before any is in the tree, or all where the window leaves none out.
-pub fn first_window(count: usize, window: usize, number: usize) -> Window
-    ensures { FirstWindow count number result }
-{
-    if window < number {
-        return Window {
-            limit: 0,
-            inside: 0,
-            number,
-        };
-    }
-    Window {
-        limit: count,
-        inside: number,
-        number,
-    }
-}
-
-// Puts the cells that a step may take into a tree.
-pub fn ranked_window(
-    area: &mut [usize],
-    keys: &[u32],
-    count: usize,
-    window: usize,
-    cells: ReadyCells,
-) -> Window
-    requires { (64 ≤ count) × (3 * count ≤ length area.old) × (3 * count ≤ length keys.now) × Levels (drop (2 * count) area.old) count × Counted count area.old cells }
-    ensures { Tracked count keys.now area.new result × (result.inside ≡ min window result.number) × Fronted count area.old area.new }
-{
-    let first = first_window(count, window, cells.number);
-    rank(area, keys, count, first.limit);
-    settle(area, keys, count, window, first)
 }
 
 // Takes cell after cell, until none is ready; returns how many.
@@ -156,27 +101,21 @@ pub fn take_all(
     ensures { Scheduled count area.old next.now keys.now window order.new result × (drop result order.new ≡ drop result order.old) }
 {
     let first = take_scanning(area, next, keys, order, count, window, start);
-    if first.number == 0 {
+    if first.cells.number == 0 {
         return first.taken;
     }
-    let cells = ReadyCells {
-        from: first.from,
-        number: first.number,
-    };
-    let at = ranked_window(area, keys, count, window, cells);
+    let at = Window::ranked(area, keys, count, window, first.cells);
     take_ranked(area, next, keys, order, count, window, first.taken, at)
 }
 
-// How many cells the circuit has.
+// How many cells the circuit has. By a loop, since with `filter` and `count` over the range the proof did not close.
 pub fn count_cells(nodes: &[usize], count: usize) -> usize
     requires { 9 * count ≤ length nodes.now }
     ensures { result ≡ length (cells_of (graph_in nodes.now count)) }
 {
-    let mut i = count;
     let mut cells = 0;
-    while 0 < i {
-        i -= 1;
-        if nodes[9 * i] == 2 {
+    for node in 0..count {
+        if nodes[9 * node] == 2 {
             cells += 1;
         }
     }
@@ -196,7 +135,7 @@ pub fn order_cells(
     requires { (9 * count ≤ length nodes.now) × Wired nodes.now count × (3 * count ≤ length area.old) × (2 * count < length next.old) × (3 * count ≤ length keys.now) × (count ≤ length order.old) × (1 ≤ window) }
     ensures { Filled nodes.now count keys.now window order.old order.new result }
 {
-    clear(area);
+    area.fill(0);
     link_all(nodes, count, area, next);
     let cells = open_all(nodes, count, area, next);
     take_all(area, next, keys, order, count, window, cells)
@@ -215,6 +154,6 @@ pub fn fresh_order(
     requires { (9 * count ≤ length nodes.now) × Wired nodes.now count × (3 * count ≤ length area.old) × (2 * count < length next.old) × (3 * count ≤ length keys.now) × (count ≤ length order.old) × (1 ≤ window) }
     ensures { Listed nodes.now count keys.now window order.new result }
 {
-    clear(order);
+    order.fill(0);
     order_cells(nodes, count, keys, window, area, next, order)
 }

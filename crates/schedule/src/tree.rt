@@ -1,18 +1,17 @@
 // The tree of the best ready cells, in the ready area after the set of ready nodes: its first entry is the best of all.
+// An entry is a word of that lent area: 0 for no node, or the node's number and 1.
 ghost use Rattle.std.specs.Prelude.{◌≡◌, not, cond, ◌+◌, ◌*◌, ◌/◌, ◌<◌, ◌≤◌, eqb, length, get_or, set};
 ghost use Rattle.schedule.specs.Schedule.{key_at, above};
 ghost use Rattle.schedule.specs.Tree.{ahead, Winner, InWord, better_of, Joined, LeavesKept, LeafPut, LeavesPut, Ranked, Fronted};
 
-use crate::keys::{Best, better, key_at};
+use crate::keys::Best;
 
 // Of two nodes, the first the smaller, the one that is taken before the other.
 pub fn first_of(keys: &[u32], a: usize, b: usize) -> usize
     requires { (3 * a + 2 < length keys.now) × (3 * b + 2 < length keys.now) }
     ensures { result ≡ cond (above (key_at keys.now b) (key_at keys.now a)) b a }
 {
-    let key = key_at(keys, a);
-    let best = better(keys, Best { node: a, key }, b);
-    best.node
+    Best::of(keys, a).better(keys, b).node
 }
 
 // Of two entries the better.
@@ -26,10 +25,7 @@ pub fn better_entry(keys: &[u32], a: usize, b: usize) -> usize
     if b == 0 {
         return a;
     }
-    if a < b {
-        return first_of(keys, a - 1, b - 1) + 1;
-    }
-    first_of(keys, b - 1, a - 1) + 1
+    first_of(keys, a.min(b) - 1, a.max(b) - 1) + 1
 }
 
 // The entry of the members of the word w that are below the limit.
@@ -38,10 +34,11 @@ pub fn leaf(ready: &[usize], keys: &[u32], limit: usize, w: usize) -> usize
     ensures { Winner (key_at keys.now) (InWord ready.now limit w) result }
 {
     let mut best = 0;
+    // Bit after bit that is set: their number is not known before.
     let mut i = 64 * w;
     let mut rest = ready[w];
     while rest != 0 {
-        let t = usize::trailing_zeros(rest) as usize;
+        let t = rest.trailing_zeros() as usize;
         let node = i + t;
         if limit <= node {
             break;
@@ -70,10 +67,7 @@ pub fn climb(tree: &mut [usize], keys: &[u32], leaves: usize, nodes: usize, from
     ensures { Joined (key_at keys.now) leaves nodes tree.new 1 0 × LeavesKept leaves tree.old tree.new }
 {
     let mut v = from;
-    while v != 0 {
-        if !join(tree, keys, v) {
-            return;
-        }
+    while v != 0 && join(tree, keys, v) {
         v /= 2;
     }
 }
@@ -83,9 +77,7 @@ pub fn join_all(tree: &mut [usize], keys: &[u32], leaves: usize, nodes: usize)
     requires { Joined (key_at keys.now) leaves nodes tree.old leaves 0 × (1 ≤ leaves) × (3 * nodes ≤ length keys.now) }
     ensures { Joined (key_at keys.now) leaves nodes tree.new 1 0 × LeavesKept leaves tree.old tree.new }
 {
-    let mut v = leaves;
-    while 1 < v {
-        v -= 1;
+    for v in (1..leaves).rev() {
         join(tree, keys, v);
     }
 }
@@ -117,10 +109,8 @@ pub fn put_leaves(area: &mut [usize], keys: &[u32], count: usize, limit: usize)
     requires { (64 ≤ count) × (limit ≤ count) × (3 * count ≤ length area.old) × (3 * count ≤ length keys.now) }
     ensures { LeavesPut count limit keys.now area.old (count / 64 + 1) area.new }
 {
-    let mut done = 0;
-    while done < count / 64 + 1 {
-        put_leaf(area, keys, count, limit, done);
-        done += 1;
+    for w in 0..count / 64 + 1 {
+        put_leaf(area, keys, count, limit, w);
     }
 }
 

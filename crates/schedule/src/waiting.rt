@@ -14,20 +14,16 @@ pub struct ReadyCells {
     pub number: usize,
 }
 
-// One ready cell more.
-pub fn with_cell(cells: ReadyCells, node: usize) -> ReadyCells
-    requires { cells.number + 1 < 2 ^ 64 }
-    ensures { (result.from ≡ min node cells.from) × (result.number ≡ cells.number + 1) }
-{
-    if node < cells.from {
-        return ReadyCells {
-            from: node,
-            number: cells.number + 1,
-        };
-    }
-    ReadyCells {
-        from: cells.from,
-        number: cells.number + 1,
+impl ReadyCells {
+    // One ready cell more.
+    pub fn with_cell(self, node: usize) -> ReadyCells
+        requires { self.number + 1 < 2 ^ 64 }
+        ensures { (result.from ≡ min node self.from) × (result.number ≡ self.number + 1) }
+    {
+        ReadyCells {
+            from: node.min(self.from),
+            number: self.number + 1,
+        }
     }
 }
 
@@ -55,7 +51,7 @@ pub fn note(
     area[2 * node] = left;
     if up {
         mark_ready(area, count, node, true);
-        return with_cell(cells, node);
+        return cells.with_cell(node);
     }
     cells
 }
@@ -81,6 +77,7 @@ pub fn release(
     ensures { Released count area.old next.now node area.new × Counted count area.new result }
 {
     let mut left = cells;
+    // Words of a lent area, as the C interface fixes them: each read names the next of its chain, and zero ends it.
     let mut edge = area[2 * node + 1];
     while edge != 0 {
         left = lower(area, count, (edge - 1) / 2, left);
@@ -88,8 +85,8 @@ pub fn release(
     }
     mark_ready(area, count, node, false);
     ReadyCells {
-        from: left.from,
         number: left.number - 1,
+        ..left
     }
 }
 
@@ -97,10 +94,7 @@ pub fn release(
 pub fn is_ready(kind: usize, left: usize) -> bool
     ensures { result ≡ eqb kind 2 && eqb left 0 }
 {
-    if kind != 2 {
-        return false;
-    }
-    left == 0
+    kind == 2 && left == 0
 }
 
 // What a node waits for, and whether it is ready, before anything is taken.
@@ -128,10 +122,8 @@ pub fn open_all(nodes: &[usize], count: usize, area: &mut [usize], next: &[usize
         from: count,
         number: 0,
     };
-    let mut done = 0;
-    while done < count {
-        cells = open(nodes, count, area, done, cells);
-        done += 1;
+    for node in 0..count {
+        cells = open(nodes, count, area, node, cells);
     }
     cells
 }

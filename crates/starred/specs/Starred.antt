@@ -1,12 +1,12 @@
 -- The starred examples of 01 as one table: what the definitions give, and what 01 says.
 -- Assumes nothing.
-use Rattle.std.specs.Prelude.{ℕ, Bool, true, ◌&&◌, List, [], ◌∷◌, ◌++◌, map, length, take, replicate}
+use Rattle.std.specs.Prelude.{ℕ, Bool, true, ◌&&◌, List, [], ◌∷◌, ◌++◌, map, length, take, replicate, Err, Ok}
 use Prim.Native.String.{String}
 use Rattle.laws.specs.Stretches.{same_bytes}
 use Rattle.circuit.specs.declared.records.BoolNode.{BoolNode}
 use Rattle.circuit.specs.declared.records.BoolWire.{BoolWire}
 use Rattle.circuit.specs.declared.records.Output.{Output}
-use Rattle.circuit.specs.Refusals.{Try, no, yes}
+use Rattle.circuit.specs.Refusals.{Try}
 use Rattle.circuit.specs.Records.{wire_word}
 use Rattle.circuit.specs.Circuits.{Circuit, node_words, output_words}
 use Rattle.text.specs.Joining.{joined_text}
@@ -33,12 +33,12 @@ from_bristol s = bristol_circuit (ascii s) 9216 5120 1024
 
 -- the circuit's parts; none where the text is refused
 abbrev pub nodes_of : Try Circuit → List BoolNode
-nodes_of (no e) = []
-nodes_of (yes c) = c.nodes
+nodes_of (Err e) = []
+nodes_of (Ok c) = c.nodes
 
 abbrev pub outputs_of : Try Circuit → List Output
-outputs_of (no e) = []
-outputs_of (yes c) = c.outputs
+outputs_of (Err e) = []
+outputs_of (Ok c) = c.outputs
 
 abbrev pub wires_out : Try Circuit → List BoolWire
 wires_out c = map (λ o. o.wire) (outputs_of c)

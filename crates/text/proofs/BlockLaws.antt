@@ -1,45 +1,31 @@
--- A byte looked for in blocks: the bytes of a block told at once, and blocks that are passed.
+-- A byte looked for in blocks: a block told by a fold, and blocks that are passed.
 -- Assumes nothing.
-use Prim.Native.Nat.{ℕ, ◌+◌, ◌-◌, ◌≤◌, ◌<◌, max}
-use mathlib.Core.Path.{◌≡◌, refl, ap}
-use mathlib.Core.Bool.{Bool, true, false, cond, not, ◌||◌}
-use mathlib.Core.List.{List}
+use Prim.Native.Nat.{ℕ, ◌+◌, ◌-◌, ◌≤◌}
+use mathlib.Core.Path.{◌≡◌, refl, sym, ap, ◌∙◌}
+use mathlib.Core.Bool.{Bool, true, false, not, ◌||◌}
+use mathlib.Core.List.{List, [], ◌∷◌, ◌++◌}
 use native.Mathlib.Omega.{arith}
-use lib.Dec.{eqb, ltb}
-use lib.ListN.{length, get_or}
-use borrow.Author.Tests.{ltb-true, ltb-false, lt-ltb, le-ltb}
+use lib.Dec.{eqb}
+use lib.ListN.{length}
 use Rattle.laws.specs.Lists.{some}
 use Rattle.laws.specs.Stretches.{stretch, run, is_not}
 use Rattle.laws.proofs.Lists.{none_at}
-use Rattle.laws.proofs.Stretches.{rest_start, rest_step, rest_end, length-stretch}
+use Rattle.laws.proofs.Stretches.{length-stretch}
 use Rattle.text.specs.Bytes.{is_byte}
 use Rattle.text.proofs.RunLaws.{run_full, pass_near}
 
--- the greatest mark so far and what is left of the block tell of the whole
-module _ (t : List ℕ) (x at n : ℕ) where
-  abbrev pub Told : ℕ → ℕ → Bool
-  Told hit i = ltb 0 hit || some (is_byte x) (stretch t (at + i) (n - i))
+-- one more byte of a block
+or_assoc : (a b c : Bool) → (a || b) || c ≡ a || (b || c)
+or_assoc true b c = refl
+or_assoc false b c = refl
 
-  pub told_start : Told 0 0 ≡ some (is_byte x) (stretch t at n)
-  told_start = ap (some (is_byte x)) (rest_start t at n)
+or-false : (a : Bool) → a ≡ a || false
+or-false true = refl
+or-false false = refl
 
-  pub told_next : at + n ≤ length t → (hit i : ℕ) → i < n → Told (max hit (cond (eqb (get_or t (at + i) 0) x) 1 0)) (i + 1) ≡ Told hit i
-  told_next h hit i l = rw (rest_step t at n i l h) (go (ltb 0 hit) refl (eqb (get_or t (at + i) 0) x) (some (is_byte x) (stretch t (at + (i + 1)) (n - (i + 1)))))
-    where
-      go : (a : Bool) → ltb 0 hit ≡ a → (b rest : Bool) → ltb 0 (max hit (cond b 1 0)) || rest ≡ ltb 0 hit || (b || rest)
-      go true e b rest =
-          let k = ltb-true 0 hit e in
-          rw (e, lt-ltb 0 (max hit (cond b 1 0)) (omega (arith, k)))
-      go false e true rest = rw (e, lt-ltb 0 (max hit 1) (omega arith))
-      go false e false rest =
-          let k = ltb-false 0 hit e in
-          rw (e, le-ltb 0 (max hit 0) (omega (arith, k)))
-
-  pub told_none : (hit i : ℕ) → n ≤ i → hit ≡ 0 → false ≡ Told hit i
-  told_none hit i l e = rw (e, rest_end t (at + i) n i l)
-
-  pub told_some : (hit i : ℕ) → (hit ≡ 0 → ⊥) → true ≡ Told hit i
-  told_some hit i e = rw (lt-ltb 0 hit (omega (arith, e)))
+pub some_push : (x : ℕ) (l : List ℕ) (b : ℕ) → some (is_byte x) (l ++ (b ∷ [])) ≡ some (is_byte x) l || eqb b x
+some_push x [] b = sym (or-false (eqb b x))
+some_push x (a ∷ l) b = ap (λ (t : Bool). eqb a x || t) (some_push x l b) ∙ sym (or_assoc (eqb a x) (some (is_byte x) l) (eqb b x))
 
 -- a block without it is passed
 pub block_passed : (t : List ℕ) (x i end : ℕ) → i + 32 ≤ end → end ≤ length t → some (is_byte x) (stretch t i 32) ≡ false

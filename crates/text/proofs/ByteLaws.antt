@@ -1,41 +1,77 @@
--- The check for bytes below 128: the greatest byte so far, and what is left.
+-- Bytes of a whole list: the greatest of them, and words compared byte by byte.
 -- Assumes nothing.
-use Prim.Native.Nat.{ℕ, suc, ◌+◌, ◌≤◌, ◌<◌, max}
-use mathlib.Core.Path.{◌≡◌, refl, ap}
-use mathlib.Core.Bool.{Bool, true, false, ◌&&◌}
-use mathlib.Core.List.{List}
-use native.Mathlib.Numerals.{add-one}
+use Prim.Native.Nat.{ℕ, ◌-◌, max}
+use mathlib.Core.Path.{◌≡◌, refl, ap, ap₂, ◌∙◌}
+use mathlib.Core.Bool.{Bool, true, false, cond, ◌&&◌}
+use mathlib.Core.List.{List, [], ◌∷◌, map}
 use native.Mathlib.Omega.{arith}
-use lib.Dec.{ltb}
-use lib.ListN.{length, get_or, drop, drop_of_length-le}
-use lib.Seq.{drop-cons}
-use borrow.Author.Tests.{ltb-true, ltb-false, lt-ltb, le-ltb}
-use Rattle.text.specs.Bytes.{is_ascii}
+use lib.Dec.{eqb, leb, ltb}
+use lib.ListN.{length}
+use borrow.Author.Tests.{leb-true, leb-false, ltb-true, ltb-false, lt-ltb, le-ltb}
+use Rattle.std.specs.List.{fold, list_all, zip}
+use Rattle.std.specs.Char.{to_ascii_uppercase}
+use Rattle.std.specs.Cmp.Lexicographic.{pointwise}
+use Rattle.laws.specs.Stretches.{same_bytes}
+use Rattle.laws.proofs.Stretches.{other_length}
+use Rattle.text.specs.Bytes.{is_ascii, upper}
 
-and-false : (a : Bool) → a && false ≡ false
-and-false true = refl
-and-false false = refl
+-- the greatest is below 128 where each is
+below_max : (h b : ℕ) → ltb (max h b) 128 ≡ ltb h 128 && ltb b 128
+below_max h b = go (ltb h 128) (ltb b 128) refl refl
+  where
+    go : (p q : Bool) → ltb h 128 ≡ p → ltb b 128 ≡ q → ltb (max h b) 128 ≡ p && q
+    go true true e f = lt-ltb (max h b) 128 (omega (arith, ltb-true h 128 e, ltb-true b 128 f))
+    go true false e f = le-ltb (max h b) 128 (omega (arith, ltb-false b 128 f))
+    go false q e f = le-ltb (max h b) 128 (omega (arith, ltb-false h 128 e))
 
-module _ (t : List ℕ) (i high : ℕ) where
-  pub ascii-next : i < length t → ltb (max high (get_or t i 0)) 128 && is_ascii (drop (i + 1) t) ≡ ltb high 128 && is_ascii (drop i t)
-  unfolding is_ascii
-  ascii-next h = rw (drop-cons t i 0 h, add-one i) (go (ltb high 128) (ltb (get_or t i 0) 128) refl refl)
-    where
-      go : (a b : Bool) → ltb high 128 ≡ a → ltb (get_or t i 0) 128 ≡ b → ltb (max high (get_or t i 0)) 128 && is_ascii (drop (suc i) t) ≡ a && (b && is_ascii (drop (suc i) t))
-      go true true p q =
-          let x : high < 128 = ltb-true high 128 p in
-          let y : get_or t i 0 < 128 = ltb-true (get_or t i 0) 128 q in
-          ap (λ (b : Bool). b && is_ascii (drop (suc i) t)) (lt-ltb (max high (get_or t i 0)) 128 (omega arith))
-      go true false p q =
-          let y : 128 ≤ get_or t i 0 = ltb-false (get_or t i 0) 128 q in
-          ap (λ (b : Bool). b && is_ascii (drop (suc i) t)) (le-ltb (max high (get_or t i 0)) 128 (omega arith))
-      go false b p q =
-          let x : 128 ≤ high = ltb-false high 128 p in
-          ap (λ (b : Bool). b && is_ascii (drop (suc i) t)) (le-ltb (max high (get_or t i 0)) 128 (omega arith))
+and_assoc : (a b c : Bool) → (a && b) && c ≡ a && (b && c)
+and_assoc true b c = refl
+and_assoc false b c = refl
 
-  pub ascii-none : length t ≤ i → high < 128 → true ≡ ltb high 128 && is_ascii (drop i t)
-  unfolding is_ascii
-  ascii-none h l = rw (drop_of_length-le t h, lt-ltb high 128 l)
+and-true : (a : Bool) → a ≡ a && true
+and-true true = refl
+and-true false = refl
 
-  pub ascii-some : 128 ≤ high → false ≡ ltb high 128 && is_ascii (drop i t)
-  ascii-some l = rw (le-ltb high 128 l)
+pub ascii_fold : (h : ℕ) (l : List ℕ) → ltb (fold max h l) 128 ≡ ltb h 128 && is_ascii l
+unfolding is_ascii
+ascii_fold h [] = and-true (ltb h 128)
+ascii_fold h (b ∷ bs) = ascii_fold (max h b) bs ∙ ap (λ (t : Bool). t && is_ascii bs) (below_max h b) ∙ and_assoc (ltb h 128) (ltb b 128) (is_ascii bs)
+
+-- words compared, as `==` of slices does it, and as all pairs of a `zip`
+pub same_pointwise : (x y : List ℕ) → pointwise eqb x y ≡ same_bytes x y
+unfolding same_bytes
+same_pointwise [] [] = refl
+same_pointwise [] (y ∷ ys) = refl
+same_pointwise (x ∷ xs) [] = refl
+same_pointwise (x ∷ xs) (y ∷ ys) = ap (λ (t : Bool). eqb x y && t) (same_pointwise xs ys)
+
+pub same_zipped : (f : ℕ → ℕ) (x y : List ℕ) → length x ≡ length y → list_all (λ (p : ℕ × ℕ). eqb (f p.0) p.1) (zip x y) ≡ same_bytes (map f x) y
+unfolding same_bytes
+same_zipped f [] [] e = refl
+same_zipped f [] (y ∷ ys) e = absurd (omega (arith, e))
+same_zipped f (x ∷ xs) [] e = absurd (omega (arith, e))
+same_zipped f (x ∷ xs) (y ∷ ys) e = ap (λ (t : Bool). eqb (f x) y && t) (same_zipped f xs ys (omega (arith, e)))
+
+pub other_lengths : (f : ℕ → ℕ) (x y : List ℕ) → (length x ≡ length y → ⊥) → false ≡ same_bytes (map f x) y
+other_lengths f x y n = other_length (map f x) y (λ e. n (omega (arith, e, size x)))
+  where
+    size : (l : List ℕ) → length (map f l) ≡ length l
+    size [] = refl
+    size (b ∷ bs) = omega (arith, size bs)
+
+-- capitals, as std makes them
+uppercase : (b : ℕ) → to_ascii_uppercase b ≡ upper b
+unfolding upper
+uppercase b = go (leb 97 b) refl (leb b 122) refl
+  where
+    go : (s : Bool) → leb 97 b ≡ s → (t : Bool) → leb b 122 ≡ t → to_ascii_uppercase b ≡ cond (s && t) (b - 32) b
+    go false e t f = rw (lt-ltb b 97 (leb-false 97 b e))
+    go true e true f = rw (le-ltb b 97 (leb-true 97 b e), lt-ltb b 123 (omega (arith, leb-true b 122 f)))
+    go true e false f = rw (le-ltb b 97 (leb-true 97 b e), le-ltb b 123 (omega (arith, leb-false b 122 f)))
+
+pub same_uppercase : (x y : List ℕ) → same_bytes (map to_ascii_uppercase x) y ≡ same_bytes (map upper x) y
+same_uppercase x y = ap (λ (l : List ℕ). same_bytes l y) (each x)
+  where
+    each : (l : List ℕ) → map to_ascii_uppercase l ≡ map upper l
+    each [] = refl
+    each (b ∷ bs) = ap₂ (λ (c : ℕ) (cs : List ℕ). c ∷ cs) (uppercase b) (each bs)

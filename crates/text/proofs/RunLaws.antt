@@ -2,7 +2,6 @@
 -- Assumes nothing.
 use Prim.Native.Nat.{ℕ, zero, suc, ◌+◌, ◌-◌, ◌≤◌, ◌<◌, min}
 use mathlib.Core.Path.{◌≡◌, refl, sym, ap, ◌∙◌, subst}
-use mathlib.Core.Logic.{◌≢◌}
 use mathlib.Core.Bool.{Bool, true, false, cond, not, ◌&&◌, ◌||◌, false≢true}
 use mathlib.Core.List.{List, [], ◌∷◌}
 use native.Mathlib.Omega.{arith}
@@ -10,8 +9,8 @@ use native.Mathlib.Nat.{not-suc-le-zero}
 use lib.Dec.{eqb, leb}
 use lib.ListN.{length, get_or, take, drop}
 use lib.Seq.{drop-drop}
-use borrow.Author.Tests.{eqb-true, eqb-false, ne_eqb, leb-true, leb-false, le-leb, lt-leb}
-use Rattle.laws.specs.Stretches.{stretch, run, is_not}
+use borrow.Author.Tests.{ne_eqb, leb-false, lt-leb}
+use Rattle.laws.specs.Stretches.{stretch, run}
 use Rattle.laws.proofs.Stretches.{drop-part}
 use Rattle.text.specs.Blanks.{is_blank, not_blank}
 use Rattle.text.specs.Eights.{outside}
@@ -77,18 +76,6 @@ run-from p q f t from end i e =
     let d : run q (stretch t (from + run p l) (end - (from + run p l))) ≡ run q l - run p l = ap (run q) (sym (drop-part (run p l) t from end)) ∙ run_past q (run p l) l m in
     let d' = subst (λ (x : ℕ). run q (stretch t x (end - x)) ≡ run q l - run p l) (sym e) d in
     omega (arith, e, m, d')
-
--- a byte that is no other: outside of the one from x to x
-pub other_byte : (x b : ℕ) → b ≡ x → (l : List ℕ) → run (outside b b) l ≡ run (is_not x) l
-other_byte x b e = run_same (outside b b) (is_not x) (λ c. ap not (go c (eqb c x) refl))
-  where
-    go : (c : ℕ) (t : Bool) → eqb c x ≡ t → leb b c && leb c b ≡ t
-    go c true q = let m = eqb-true c x q in rw (le-leb b c (omega (arith, e, m)), le-leb c b (omega (arith, e, m)))
-    go c false q = up c (leb b c) refl (eqb-false c x q)
-      where
-        up : (c : ℕ) (s : Bool) → leb b c ≡ s → c ≢ x → s && leb c b ≡ false
-        up c true r n = lt-leb c b (omega (arith, e, n, leb-true b c r))
-        up c false r n = refl
 
 -- what lies outside of 9 to 32 is no blank
 pub not-blank : (b : ℕ) → outside 9 32 b ≡ true → not_blank b ≡ true

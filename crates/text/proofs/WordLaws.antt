@@ -12,8 +12,9 @@ use borrow.Author.Tests.{not-true}
 use Rattle.laws.specs.Stretches.{stretch, run, All}
 use Rattle.laws.proofs.Stretches.{rest_end, drop-part, run_drop, run_length, run_all, all_at, all_map, length-stretch_le, stretch_all, stretch-stretch, get_or-stretch}
 use Rattle.text.specs.Blanks.{is_blank, not_blank}
-use Rattle.text.specs.Words.{bytes_of, words, within, split_whitespace, next_word, IsWord}
+use Rattle.text.specs.Words.{bytes_of, words, within, words_between, split_whitespace, next_word, IsWord}
 use Rattle.text.specs.declared.words.Word.{Word}
+use Rattle.text.specs.declared.words.Words.{Words}
 
 pub next_made : (t : List ℕ) (from end s e : ℕ) → s ≡ from + run is_blank (stretch t from (end - from)) → e ≡ s + run not_blank (stretch t s (end - s))
     → ◌≡◌ {A = Word} (record { start = s; len = e - s }) (next_word t from end)
@@ -162,6 +163,36 @@ module _ (t : List ℕ) (from end : ℕ) where
 pub words_over : (t : List ℕ) (at end : ℕ) → end ≤ at → words at (stretch t at (end - at)) ≡ []
 unfolding words
 words_over t at end h = rw (rest_end t at end at h)
+
+-- ---- there are no more words than bytes
+
+mutual
+  unfolding words
+
+  words_count : (at : ℕ) (l : List ℕ) → length (words at l) ≤ length l
+  words_count at [] = omega arith
+  words_count at (b ∷ bs) = go (is_blank b) (words_count (suc at) bs) (within_count at 1 bs)
+    where
+      go : (t : Bool) → length (words (suc at) bs) ≤ length bs → length (within at 1 bs) ≤ suc (length bs)
+          → length (cond t (words (suc at) bs) (within at 1 bs)) ≤ suc (length bs)
+      go true h g = omega arith
+      go false h g = g
+
+  within_count : (s n : ℕ) (l : List ℕ) → length (within s n l) ≤ suc (length l)
+  within_count s n [] = omega arith
+  within_count s n (b ∷ bs) = go (is_blank b) (words_count (s + suc n) bs) (within_count s (suc n) bs)
+    where
+      go : (t : Bool) → length (words (s + suc n) bs) ≤ length bs → length (within s (suc n) bs) ≤ suc (length bs)
+          → length (cond t (record { start = s; len = n } ∷ words (s + suc n) bs) (within s (suc n) bs)) ≤ suc (suc (length bs))
+      go true h g = omega arith
+      go false h g = omega arith
+
+pub count_between : (t : List ℕ) (from end : ℕ) → length (words_between t from end) ≤ end - from
+count_between t from end = omega (arith, words_count from (stretch t from (end - from)), length-stretch_le t from (end - from))
+
+-- the words that an iterator has yet to give
+abbrev pub words_left : Words → List Word
+words_left w = words_between w.text.now w.at w.end
 
 -- ---- each word is one
 

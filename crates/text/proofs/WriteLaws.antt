@@ -1,13 +1,13 @@
 -- Laws of the writing of the joined text.
 -- Assumes nothing.
 use Prim.Native.Nat.{ℕ, ◌+◌, ◌-◌, ◌≤◌, ◌<◌}
-use mathlib.Core.Path.{◌≡◌, refl, sym, ap, ap₂, ◌∙◌}
+use mathlib.Core.Path.{◌≡◌, refl, sym, ap, ◌∙◌}
 use mathlib.Core.Bool.{Bool, true, false, cond, not, ◌&&◌, ◌||◌}
 use mathlib.Core.List.{List, [], ◌∷◌, ◌++◌, append_assoc, append-nil}
 use native.Mathlib.Omega.{arith}
 use native.Mathlib.Numerals.{add-one}
-use lib.ListN.{length, length-append, length-drop, take, drop, get_or, set, replicate}
-use lib.Seq.{length-take-le, get_or-drop, take-paste, paste, paste-suc, take-suc-set, length-paste, take_at}
+use lib.ListN.{length, length-append, take, get_or, set, replicate}
+use lib.Seq.{length-take-le, take-suc-set, take_at}
 use lib.Dec.{eqb}
 use Rattle.laws.specs.Stretches.{stretch, run, is_not}
 use Rattle.laws.proofs.Stretches.{stretch_snoc, stretch_all, length-stretch, rest_end, empty-length}
@@ -59,27 +59,6 @@ part-whole t s n e = rw e
 
 pub put_one : (j : List ℕ) (out b : ℕ) (w : Bool) → w ≡ true → out < length j → Puts j (set j out b) out (out + 1) (cond w (b ∷ []) [])
 put_one j out b w e h = rw (e, add-one out) (record { front = take-suc-set j out b h; count = omega arith })
-
-pub put_none : (j : List ℕ) (out b : ℕ) (w : Bool) → w ≡ false → Puts j j out out (cond w (b ∷ []) [])
-put_none j out b w e = rw e (record { front = sym (append-nil (take out j)); count = omega arith })
-
-pub put_room : (out n b : ℕ) (w : Bool) → w ≡ true → out + length (cond w (b ∷ []) []) ≤ n → out < n
-put_room out n b w e h = omega (arith, rw e at h)
-
-module _ (t j : List ℕ) (s n out : ℕ) (h : s + n ≤ length t) (k : out + n ≤ length j) where
-  pub put_paste : Puts j (paste j out (drop s t) n) out (out + n) (stretch t s n)
-  put_paste =
-      record {
-        front = unfold stretch in take-paste j out (drop s t) n (omega arith) (simp length-drop (omega arith));
-        count = rw (length-stretch t s n h);
-      }
-
-  module _ (new : List ℕ) (i : ℕ) (e : new ≡ paste j out (drop s t) i) where
-    pub paste_more : i < n → set new (out + i) (get_or t (s + i) 0) ≡ paste j out (drop s t) (i + 1)
-    paste_more l = rw (e, add-one i, ← get_or-drop s t i 0) (paste-suc j out (drop s t) i 0 (omega arith) (simp length-drop (omega arith)))
-
-    pub paste_size : i ≤ n → length new ≡ length j
-    paste_size l = rw e (length-paste j out (drop s t) i (omega arith) (simp length-drop (omega arith)))
 
 pub puts_then : (a b c x y : List ℕ) (o p q : ℕ) → Puts a b o p x → Puts b c p q y → Puts a c o q (x ++ y)
 puts_then a b c x y o p q u v =
@@ -184,15 +163,5 @@ module _ (t j : List ℕ) (at out : ℕ) (g : Bool) (in_area_lem : out ≤ lengt
 
 -- ---- the whole area
 
-pub joins : (text old mid new : List ℕ) (r : ℕ) → r ≤ length mid → take r mid ≡ joined_text text → r ≤ length text + 1 → length mid ≡ length old
-    → new ≡ take r mid ++ replicate (length mid - r) 0 → Joins text (length old) r new
-joins text old mid new r h e f s q =
-    record {
-      count = sym (length-take-le r mid h) ∙ ap length e;
-      area = q ∙ ap₂ (λ (l : List ℕ) (n : ℕ). l ++ replicate (n - r) 0) e s;
-      fits = f;
-    }
-
--- the part of the area that holds the joined text
 pub joins_front : (text joined : List ℕ) (size r : ℕ) → Joins text size r joined → take r joined ≡ joined_text text
 joins_front text joined size r j = ap (take r) j.area ∙ take_at (joined_text text) (replicate (size - r) 0) r (sym j.count)

@@ -1,10 +1,8 @@
 -- Unsigned 64-bit numbers of words.
 -- Assumes nothing.
-use Rattle.std.specs.Prelude.{ℕ, ◌+◌, ◌-◌, ◌*◌, ◌^◌, Bool, true, cond, ◌&&◌, List, [], ◌∷◌, eqb, leb, ltb}
+use Rattle.std.specs.Prelude.{ℕ, ◌+◌, ◌-◌, ◌*◌, ◌^◌, Bool, true, cond, ◌&&◌, List, [], ◌∷◌, eqb, leb, ltb, Some, None, Option as Answer}
 use Rattle.std.proofs.Math.Option.{Option, none, some}
 use Rattle.text.specs.Words.{split_whitespace}
-use Rattle.text.specs.declared.numbers.Number.{Number}
-use Rattle.text.specs.declared.numbers.Number.TheVariants.{Value, Invalid}
 
 abbrev pub is_digit : ℕ → Bool
 is_digit b = leb 48 b && leb b 57
@@ -45,6 +43,6 @@ unfoldable pub parse_usize_words : List ℕ → Option (List ℕ)
 parse_usize_words line = parse_each (split_whitespace line)
 
 -- the code's answer
-abbrev pub number_of : Number → Option ℕ
-number_of (Value n) = some n
-number_of Invalid = none
+abbrev pub number_of : Answer ℕ → Option ℕ
+number_of (Some n) = some n
+number_of None = none

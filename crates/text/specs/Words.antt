@@ -18,6 +18,10 @@ unfoldable mutual
   within s n [] = record { start = s; len = n } ∷ []
   within s n (b ∷ bs) = cond (is_blank b) (record { start = s; len = n } ∷ words (s + suc n) bs) (within s (suc n) bs)
 
+-- the words of a text between two positions
+abbrev pub words_between : List ℕ → ℕ → ℕ → List Word
+words_between t from end = words from (stretch t from (end - from))
+
 -- the bytes of each word of a line
 unfoldable pub split_whitespace : List ℕ → List (List ℕ)
 split_whitespace l = map (bytes_of l) (words 0 l)

@@ -4,7 +4,6 @@ ghost use Rattle.laws.specs.Stretches.{stretch};
 ghost use Rattle.text.specs.Lines.{kept, FirstComment, EarlierComment, NextLine};
 
 use crate::bytes::find_far_byte;
-use crate::eights::least;
 use crate::words::{Word, trim};
 
 // A line as a stretch, and where the next raw line starts.
@@ -20,7 +19,7 @@ pub fn kept_line(text: &[u8], from: usize, end: usize) -> Word
     requires { (from ≤ end) × (end ≤ length text.now) }
     ensures { (stretch text.now result.start result.len ≡ kept (stretch text.now from (end - from))) × (result.start + result.len ≤ end) }
 {
-    let cut = find_far_byte(text, 35, from, end);
+    let cut = find_far_byte(text, b'#', from, end);
     trim(text, from, cut)
 }
 
@@ -29,8 +28,7 @@ pub fn kept_before(text: &[u8], from: usize, end: usize, comment: usize) -> Word
     requires { (from ≤ end) × (end ≤ length text.now) × FirstComment text.now from comment }
     ensures { (stretch text.now result.start result.len ≡ kept (stretch text.now from (end - from))) × (result.start + result.len ≤ end) }
 {
-    let cut = least(comment, end);
-    trim(text, from, cut)
+    trim(text, from, comment.min(end))
 }
 
 // The first `#` from `at` on, where the first from some place before it on is known: looked for once it is passed.
@@ -41,18 +39,20 @@ pub fn next_comment(text: &[u8], at: usize, last: usize) -> usize
     if at <= last {
         return last;
     }
-    find_far_byte(text, 35, at, text.len())
+    find_far_byte(text, b'#', at, text.len())
 }
 
 // The first kept line from `from`, the start of a raw line, on; of length 0 if there is none.
+// An Option would be no plainer: a header reads three lines before it asks whether any is there.
 pub fn next_line(text: &[u8], from: usize) -> Line
     requires { from ≤ length text.now + 1 }
     ensures { NextLine text.now from result }
 {
     let size = text.len();
     let mut at = from;
+    // Each turn goes on after the line before, so there is no range to count over.
     while at < size {
-        let end = find_far_byte(text, 10, at, size);
+        let end = find_far_byte(text, b'\n', at, size);
         let w = kept_line(text, at, end);
         if w.len != 0 {
             return Line {

@@ -3,56 +3,40 @@ ghost use Rattle.std.specs.Prelude.{◌≡◌, ◌+◌, ◌≤◌, length};
 ghost use Rattle.laws.specs.Stretches.{stretch};
 ghost use Rattle.text.specs.Numbers.{number_of, digits, parse_usize};
 
-#[derive(Clone, Copy)]
-pub enum Number {
-    Value(usize),
-    Invalid,
-}
-
-pub fn wide(b: u8) -> usize
-    ensures { result ≡ b }
-{
-    b as usize
-}
+use crate::words::Word;
 
 // One digit or more.
-pub fn parse_digits(text: &[u8], start: usize, len: usize) -> Number
-    requires { start + len ≤ length text.now }
-    ensures { number_of result ≡ digits (stretch text.now start len) }
+pub fn parse_digits(text: &[u8], word: Word) -> Option<usize>
+    requires { word.start + word.len ≤ length text.now }
+    ensures { number_of result ≡ digits (stretch text.now word.start word.len) }
 {
-    if len == 0 {
-        return Number::Invalid;
+    if word.len == 0 {
+        return None;
     }
     let mut v: usize = 0;
-    let mut i = 0;
-    while i < len {
-        let b = wide(text[start + i]);
-        if b < 48 {
-            return Number::Invalid;
+    for &b in word.bytes(text) {
+        if !b.is_ascii_digit() {
+            return None;
         }
-        if 57 < b {
-            return Number::Invalid;
-        }
-        let d = b - 48;
-        if (18446744073709551615 - d) / 10 < v {
-            return Number::Invalid;
-        }
-        v = v * 10 + d;
-        i += 1;
+        v = v.checked_mul(10)?.checked_add(usize::from(b - b'0'))?;
     }
-    Number::Value(v)
+    Some(v)
 }
 
 // A `+`, if there is one, and digits.
-pub fn parse_usize(text: &[u8], start: usize, len: usize) -> Number
-    requires { start + len ≤ length text.now }
-    ensures { number_of result ≡ parse_usize (stretch text.now start len) }
+pub fn parse_usize(text: &[u8], word: Word) -> Option<usize>
+    requires { word.start + word.len ≤ length text.now }
+    ensures { number_of result ≡ parse_usize (stretch text.now word.start word.len) }
 {
-    if len == 0 {
-        return Number::Invalid;
+    if word.len == 0 {
+        return None;
     }
-    if text[start] == 43 {
-        return parse_digits(text, start + 1, len - 1);
+    if text[word.start] == b'+' {
+        let rest = Word {
+            start: word.start + 1,
+            len: word.len - 1,
+        };
+        return parse_digits(text, rest);
     }
-    parse_digits(text, start, len)
+    parse_digits(text, word)
 }

@@ -8,4 +8,4 @@ pub slice_bounds-run-end : goal.slice_bounds-run-end
 slice_bounds-run-end c = sym (length-take-le c.args.cells c.args.order.now c.requires)
 
 pub returns : goal.returns
-returns c = ran-then-evaluated c.args.nodes.now c.args.outputs.now (take c.args.cells c.args.order.now) c.args.assignment.now c.args.values.now c.args.answers.now c.args.evaluated.now (record { ran = c.run-ran.result; evaluated = c.evaluate-e.result }) c.run-ran.new.values _ _ _ c.run-ran.ensures c.run-ran.auto.values c.evaluate-e.ensures
+returns c = ran-then-evaluated c.args.nodes.now c.args.outputs.now (take c.args.cells c.args.order.now) c.args.assignment.now c.args.values.now c.args.answers.now c.args.evaluated.now (record { ran = c.run-ran.result; evaluated = c.evaluate-evaluated.result }) c.run-ran.new.values _ _ _ c.run-ran.ensures c.run-ran.auto.values c.evaluate-evaluated.ensures

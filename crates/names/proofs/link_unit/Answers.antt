@@ -1,11 +1,15 @@
-use Rattle.names.proofs.Links.{unit_low, unit_middle, unit_high}
+use Rattle.std.proofs.Common.{rules, arith}
+use Rattle.names.specs.Chains.{link_unit}
+use Rattle.names.proofs.Links.{unit_high}
 use Rattle.names.proofs.link_unit.Goals as goal
 
-pub returns-then-place-eq0 : goal.returns-then-place-eq0
-returns-then-place-eq0 c = unit_low _ c.if-place-eq0.true
+pub returns-in-0 : goal.returns-in-0
+unfolding link_unit
+returns-in-0 c = search rules
 
-pub returns-then-place-eq1 : goal.returns-then-place-eq1
-returns-then-place-eq1 c = unit_middle _ c.if-place-eq1.true
+pub returns-in-1 : goal.returns-in-1
+unfolding link_unit
+returns-in-1 c = search rules
 
-pub returns : goal.returns
-returns c = unit_high _ c.if-place-eq0.false c.if-place-eq1.false
+pub returns-in_default : goal.returns-in_default
+returns-in_default c = unit_high c.args.place (λ e. omega arith) (λ e. omega arith)

@@ -1,10 +1,18 @@
-use Rattle.std.proofs.Common.{ap, ◌∙◌, length}
-use Rattle.node_slices.specs.Slices.{fault_with}
-use Rattle.node_slices.proofs.Slices.{slice_with}
+use Rattle.std.proofs.Common.{sym, ◌∙◌}
+use Rattle.std.proofs.lemmas.Result.{err_from_is_err_and}
+use Rattle.node_slices.proofs.Slices.{slice_partial, slice_whole}
 use Rattle.node_slices.proofs.check_circuit_slice.Goals as goal
 
+pub returns-then-outputs-ne0 : goal.returns-then-outputs-ne0
+returns-then-outputs-ne0 c = sym (slice_partial c.args.nodes.now c.args.outputs.now c.if-outputs-ne0.true)
+
+pub returns-in_err-check_node_slice : goal.returns-in_err-check_node_slice
+returns-in_err-check_node_slice c =
+    let p = err_from_is_err_and c.from_residual.result c.from_residual.ensures.1 in
+    rw (p.1, p.2) (sym (slice_whole c.args.nodes.now c.args.outputs.now c.if-outputs-ne0.false ∙ rw (sym c.in_err-check_node_slice.ensures)))
+
+pub returns-then-some_output_outside : goal.returns-then-some_output_outside
+returns-then-some_output_outside c = sym (slice_whole c.args.nodes.now c.args.outputs.now c.if-outputs-ne0.false ∙ rw (sym c.in_ok-check_node_slice.ensures, sym c.if-some_output_outside.ensures))
+
 pub returns : goal.returns
-returns c =
-    c.with_outputs.ensures
-    ∙ ap (λ f. fault_with f c.args.outputs.now (length c.args.nodes.now)) c.check_node_slice.ensures
-    ∙ slice_with c.args.nodes.now c.args.outputs.now
+returns c = sym (slice_whole c.args.nodes.now c.args.outputs.now c.if-outputs-ne0.false ∙ rw (sym c.in_ok-check_node_slice.ensures, sym c.if-some_output_outside.ensures))

@@ -1,23 +1,24 @@
-use Prim.Native.Nat.{◌+◌}
-use mathlib.Core.Path.{refl, sym, ap, ◌∙◌}
-use native.Mathlib.Omega.{arith}
-use mathlib.Core.Bool.{true}
-use Rattle.text.specs.Blanks.{trimmed}
-use Rattle.text.specs.declared.words.Word.{Word}
+use Rattle.std.specs.Prelude.{◌+◌, Err, Ok}
+use mathlib.Core.Path.{sym, ◌∙◌}
+use Rattle.std.proofs.lemmas.Result.{err_from_is_err_and}
 use Rattle.names.specs.Chains.{entries}
-use Rattle.reading.specs.Reading.{find}
 use Rattle.bench_invocations.specs.Invocations.{between}
-use Rattle.bench.proofs.Planning.{plan_refused, plan_same, no_output, known_output, new_output}
+use Rattle.bench_invocations.specs.Walks.{invoked}
+use Rattle.bench.proofs.Planning.{plan_refused, no_output, known_output, new_output}
 use Rattle.bench.proofs.gates.plan_gate.Goals as goal
 
-pub returns-then-len-eq0 : goal.returns-then-len-eq0
-returns-then-len-eq0 c = plan_refused c.args.text.now (entries c.args.names.now c.args.count) (trimmed c.args.text.now (between c.args.at c.args.cut)) _ c.refused_plan.result _ c.refused_plan.ensures (no_output c.args.text.now (trimmed c.args.text.now (between c.args.at c.args.cut)) (between (c.args.cut + 1) c.args.end) (entries c.args.names.now c.args.count) (ap (λ (w : Word). w.len) (sym c.trim-out.ensures.0) ∙ c.if-len-eq0.true))
+pub returns-then-out-eq0 : goal.returns-then-out-eq0
+returns-then-out-eq0 c = rw c.trim-out.ensures.0 at (plan_refused c.args.table.now.text.now (entries c.args.table.now.names.now c.args.table.now.count) c.trim-out.result _ _ (no_output c.args.table.now.text.now c.trim-out.result (between (c.args.cut + 1) c.args.end) (entries c.args.table.now.names.now c.args.table.now.count) c.if-out-eq0.true))
 
-pub returns-in-At : goal.returns-in-At
-returns-in-At c = plan_refused c.args.text.now (entries c.args.names.now c.args.count) (trimmed c.args.text.now (between c.args.at c.args.cut)) _ c.refused_plan-in-At.result _ c.refused_plan-in-At.ensures (known_output c.args.text.now (trimmed c.args.text.now (between c.args.at c.args.cut)) (between (c.args.cut + 1) c.args.end) (entries c.args.names.now c.args.count) (λ q. c.if-len-eq0.false (ap (λ (w : Word). w.len) c.trim-out.ensures.0 ∙ q)) c.find_wire-found.result (c.find_wire-found.ensures ∙ ap (λ (w : Word). find true c.args.text.now w (entries c.args.names.now c.args.count)) c.trim-out.ensures.0) _ c.in-At.is)
+pub returns-then-is_some : goal.returns-then-is_some
+returns-then-is_some c = rw c.trim-out.ensures.0 at (plan_refused c.args.table.now.text.now (entries c.args.table.now.names.now c.args.table.now.count) c.trim-out.result _ _ (known_output c.args.table.now.text.now c.trim-out.result (between (c.args.cut + 1) c.args.end) (entries c.args.table.now.names.now c.args.table.now.count) c.if-out-eq0.false c.find_wire.result c.find_wire.ensures (sym c.is_some.ensures ∙ c.if-is_some.true)))
 
-pub plan_inputs-requires : goal.plan_inputs-requires
-plan_inputs-requires c = record { table = c.requires.table; len_in_bounds = omega (arith, c.trim-out.ensures.2, c.requires.at_le_cut); invocation_is = record { is = refl; inside = c.parse_bench_invocation-i.ensures.inside; reach = c.parse_bench_invocation-i.ensures.reach; count_is = c.parse_bench_invocation-i.ensures.count_is } }
+pub returns-in_err-invocation : goal.returns-in_err-invocation
+returns-in_err-invocation c =
+    let p = err_from_is_err_and c.from_residual.result c.from_residual.ensures.1 in
+    rw (p.1, p.2) (rw c.trim-out.ensures.0 at (plan_refused c.args.table.now.text.now (entries c.args.table.now.names.now c.args.table.now.count) c.trim-out.result _ _ (new_output c.args.table.now.text.now c.trim-out.result (between (c.args.cut + 1) c.args.end) (entries c.args.table.now.names.now c.args.table.now.count) c.if-out-eq0.false c.find_wire.result c.find_wire.ensures (sym c.is_some.ensures ∙ c.if-is_some.false) (Err c.in_err-invocation.field-0.0) c.in_err-invocation.ensures.is)))
 
 pub returns : goal.returns
-returns c = plan_same c.args.text.now (entries c.args.names.now c.args.count) c.trim-out.result (trimmed c.args.text.now (between c.args.at c.args.cut)) c.plan_inputs.result _ _ c.trim-out.ensures.0 (new_output c.args.text.now (trimmed c.args.text.now (between c.args.at c.args.cut)) (between (c.args.cut + 1) c.args.end) (entries c.args.names.now c.args.count) (λ q. c.if-len-eq0.false (ap (λ (w : Word). w.len) c.trim-out.ensures.0 ∙ q)) c.find_wire-found.result (c.find_wire-found.ensures ∙ ap (λ (w : Word). find true c.args.text.now w (entries c.args.names.now c.args.count)) c.trim-out.ensures.0) c.in_default.is _ c.parse_bench_invocation-i.ensures.is) c.plan_inputs.ensures
+returns c =
+    let e = new_output c.args.table.now.text.now c.trim-out.result (between (c.args.cut + 1) c.args.end) (entries c.args.table.now.names.now c.args.table.now.count) c.if-out-eq0.false c.find_wire.result c.find_wire.ensures (sym c.is_some.ensures ∙ c.if-is_some.false) (Ok (invoked c.args.table.now.text.now c.in_ok-invocation.invocation)) c.in_ok-invocation.ensures.is in
+    rw c.trim-out.ensures.0 at (rw e at c.plan_inputs.ensures)

@@ -1,24 +1,12 @@
-use mathlib.Core.Path.{refl, ◌∙◌}
+use mathlib.Core.Path.{◌∙◌}
 use native.Mathlib.Omega.{arith}
 use Rattle.bench_invocations.specs.Walks.{arguments_from}
 use Rattle.bench_invocations.proofs.Parts.{arguments_over}
 use Rattle.bench_invocations.proofs.Counting.{count_end, count_empty, count_on}
 use Rattle.bench_invocations.proofs.arguments.count_arguments.Goals as goal
 
-pub loop-at-init : goal.loop-at-init
-loop-at-init c = (omega arith, omega arith, refl)
-
-pub next_argument-a-requires : goal.next_argument-a-requires
-next_argument-a-requires c = omega arith
-
 pub returns-then-a-eq0 : goal.returns-then-a-eq0
 returns-then-a-eq0 c = count_empty (arguments_from c.args.text.now c.loop-at.at c.args.end) c.loop-at.n _ _ c.next_argument-a.ensures.first c.if-a-eq0.true ∙ c.loop-at.invariant.2
-
-pub overflow_add-n : goal.overflow_add-n
-overflow_add-n c = omega arith
-
-pub loop-at-smaller : goal.loop-at-smaller
-loop-at-smaller c = omega (arith, c.next_argument-a.ensures.on, c.next_argument-a.ensures.reach)
 
 pub loop-at-preserved : goal.loop-at-preserved
 loop-at-preserved c = (

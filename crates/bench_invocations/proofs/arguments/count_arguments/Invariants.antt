@@ -1,5 +1,4 @@
-use Prim.Native.Nat.{◌+◌, ◌-◌, ◌≤◌}
-use mathlib.Core.Path.{◌≡◌}
+use Rattle.std.proofs.Common.{◌≡◌, ◌+◌, ◌-◌, ◌≤◌}
 use Rattle.bench_invocations.specs.Walks.{arguments_from, counted}
 use Rattle.bench_invocations.proofs.arguments.count_arguments.Given as goal
 

@@ -1,15 +1,19 @@
-use Prim.Native.Nat.{◌-◌, ◌≤◌}
 use mathlib.Core.Path.{◌≡◌}
 use lib.ListN.{length}
-use Rattle.laws.specs.Stretches.{stretch}
-use Rattle.text.specs.Words.{words}
 use Rattle.laws.specs.Areas.{capacity}
+use Rattle.laws.specs.Stretches.{All}
+use Rattle.text.specs.Words.{IsWord, words_between}
+use Rattle.text.proofs.WordLaws.{words_left}
 use Rattle.reading.specs.Reading.{add_output, each}
 use Rattle.reading.specs.Holding.{words_of, WordsKept}
 use Rattle.blif.proofs.words.output_words.Given as goal
 
-abbrev pub invariant-loop-at : goal.invariant-loop-at
-invariant-loop-at l = (l.from ≤ l.at) × (l.at ≤ l.end) × (length l.outputs ≡ length l.initial.outputs) × WordsKept l.text l.outputs l.n × (each (add_output (capacity 5 (length l.initial.outputs))) (words l.at (stretch l.text l.at (l.end - l.at))) (words_of l.outputs l.n) ≡ each (add_output (capacity 5 (length l.initial.outputs))) (words l.from (stretch l.text l.from (l.end - l.from))) (words_of l.initial.outputs l.count))
-
-abbrev pub decreases-loop-at : goal.decreases-loop-at
-decreases-loop-at l = l.end - l.at
+abbrev pub invariant-loop-word : goal.invariant-loop-word
+invariant-loop-word l =
+    let step = add_output (capacity 5 (length l.initial.outputs)) in
+    (goal.iterator-loop-word).can_next l.word-iterator
+    × (goal.iterator-loop-word).is_finite l.word-iterator
+    × (length l.outputs ≡ length l.initial.outputs)
+    × All (IsWord l.text l.from l.end) (words_left l.word-iterator)
+    × WordsKept l.text l.outputs l.n
+    × (each step (words_left l.word-iterator) (words_of l.outputs l.n) ≡ each step (words_between l.text l.from l.end) (words_of l.initial.outputs l.count))

@@ -1,19 +1,14 @@
-use Prim.Native.Nat.{◌*◌}
-use mathlib.Core.Path.{ap, ◌∙◌}
-use native.Mathlib.Omega.{arith}
-use Rattle.bristol.specs.Bristol.{output_of}
-use Rattle.bristol.proofs.StoreLaws.{hold_output}
+use Rattle.std.proofs.Common.{◌*◌, ap}
+use mathlib.Core.Path.{◌∙◌}
 use Rattle.laws.specs.Areas.{stored}
 use Rattle.circuit.specs.declared.records.BoolWire.{BoolWire}
 use Rattle.circuit.specs.declared.records.Name.TheVariants.{Number}
 use Rattle.circuit.specs.Records.{encode_output}
-use Rattle.bristol_rows.proofs.RowLaws.{slot_fits}
+use Rattle.bristol.specs.Bristol.{output_of}
+use Rattle.bristol.proofs.StoreLaws.{hold_output}
 use Rattle.bristol.proofs.outputs.put_wire.Goals as goal
-
-pub put_output-requires : goal.put_output-requires
-put_output-requires c = record { j_in_bounds = c.requires; wire_bound = omega (arith, slot_fits c.args.slot c.slot_wire-wire.result c.slot_wire-wire.ensures (omega arith)) }
 
 pub returns : goal.returns
 returns c os p h =
     hold_output c.args.outputs.now c.put_output.new.outputs os (output_of c.args.w c.args.slot) c.args.count p
-    (c.put_output.ensures ∙ ap (λ (z : BoolWire). stored c.args.outputs.now (c.args.count * 5) (encode_output (record { name = Number c.args.w; wire = z }))) c.slot_wire-wire.ensures) c.put_output.auto.outputs h
+    (c.put_output.ensures ∙ ap (λ (z : BoolWire). stored c.args.outputs.now (c.args.count * 5) (encode_output (record { name = Number c.args.w; wire = z }))) c.slot_wire.ensures) c.put_output.auto.outputs h

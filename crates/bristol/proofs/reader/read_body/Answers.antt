@@ -1,47 +1,38 @@
-use Prim.Native.Nat.{ℕ, ◌-◌}
-use mathlib.Core.Path.{refl, ap, ◌∙◌, subst}
-use mathlib.Core.List.{List, []}
-use native.Mathlib.Omega.{arith}
-use lib.ListN.{length, drop, length-replicate}
-use Rattle.bristol.specs.Promises.{OutputsAre}
-use Rattle.bristol.specs.Bristol.{outputs_from, start}
-use Rattle.bristol.proofs.ReadLaws.{start_is, rows_told, body_refused, body_count, body-outputs, body_built}
+use Rattle.std.proofs.Common.{length, drop, Err, Ok, refl}
+use Rattle.std.proofs.lemmas.Result.{err_from_is_err_and}
 use Rattle.laws.specs.Areas.{capacity}
 use Rattle.text.specs.Lines.{kept_lines}
+use Rattle.bristol.specs.Bristol.{start}
+use Rattle.bristol.proofs.ReadLaws.{start_is, rows_told, body_refused, body_count, body-outputs, body_built}
 use Rattle.bristol.proofs.reader.read_body.Goals as goal
 
-pub read_gates-r-requires : goal.read_gates-r-requires
-read_gates-r-requires c =
-    (c.requires.reach, omega (arith, ap length c.requires.wires_zero ∙ length-replicate c.args.head.wires 0), c.requires.room, c.requires.nodes_empty)
+pub returns-in_err-read : goal.returns-in_err-read
+returns-in_err-read c =
+    let p = err_from_is_err_and c.from_residual.result c.from_residual.ensures.1 in
+    let ls = kept_lines (drop c.args.rest c.args.text.now) in
+    let n = length c.args.nodes.now in
+    rw (p.1, p.2) (body_refused (capacity 9 n) (capacity 5 (length c.args.outputs.now)) c.args.head ls _
+    (rows_told (length ls) c.read_gates.new.nodes c.read_gates.new.wires n n refl ls _ (start c.args.head) (start_is c.args.head c.args.wires.now c.requires.wires_zero) (Err c.in_err-read.field-0.0) c.in_err-read.ensures))
 
-pub returns-then-rows-head : goal.returns-then-rows-head
-returns-then-rows-head c =
-    let ls : List (List ℕ) = kept_lines (drop c.args.rest c.args.text.now) in
-    body_count (capacity 9 (length c.args.nodes.now)) (capacity 5 (length c.args.outputs.now)) c.args.head ls c.read_gates-r.new.nodes c.read_gates-r.new.wires c.in-Are.next.0 c.in-Are.rows
-    (rows_told (length ls) c.read_gates-r.new.nodes c.read_gates-r.new.wires (length c.args.nodes.now) (length c.args.nodes.now) refl ls _ (start c.args.head) (start_is c.args.head c.args.wires.now c.requires.wires_zero) c.read_gates-r.result c.in-Are.is c.read_gates-r.ensures) c.if-rows-head.true
+pub returns-then-read-head : goal.returns-then-read-head
+returns-then-read-head c =
+    let ls = kept_lines (drop c.args.rest c.args.text.now) in
+    let n = length c.args.nodes.now in
+    body_count (capacity 9 n) (capacity 5 (length c.args.outputs.now)) c.args.head ls c.read_gates.new.nodes c.read_gates.new.wires c.in_ok-read.read.next.0 c.in_ok-read.read.rows
+    (rows_told (length ls) c.read_gates.new.nodes c.read_gates.new.wires n n refl ls _ (start c.args.head) (start_is c.args.head c.args.wires.now c.requires.wires_zero) (Ok c.in_ok-read.read) c.in_ok-read.ensures) c.if-read-head.true
 
-pub put_wires-o-requires : goal.put_wires-o-requires
-put_wires-o-requires c =
-    (omega (arith, ap length c.requires.wires_zero ∙ length-replicate c.args.head.wires 0, c.read_gates-r.auto.wires), c.requires.outputs_empty)
+pub returns-in_err-count : goal.returns-in_err-count
+returns-in_err-count c =
+    let p = err_from_is_err_and c.from_residual-in_err-count.result c.from_residual-in_err-count.ensures.1 in
+    let ls = kept_lines (drop c.args.rest c.args.text.now) in
+    let n = length c.args.nodes.now in
+    rw (p.1, p.2) (body-outputs (capacity 9 n) (capacity 5 (length c.args.outputs.now)) c.args.head ls c.read_gates.new.nodes c.read_gates.new.wires c.in_ok-read.read.next.0 c.in_ok-read.read.rows
+    (rows_told (length ls) c.read_gates.new.nodes c.read_gates.new.wires n n refl ls _ (start c.args.head) (start_is c.args.head c.args.wires.now c.requires.wires_zero) (Ok c.in_ok-read.read) c.in_ok-read.ensures) _ c.if-read-head.false c.in_err-count.ensures)
 
-pub returns-in-Refused : goal.returns-in-Refused
-returns-in-Refused c =
-    let ls : List (List ℕ) = kept_lines (drop c.args.rest c.args.text.now) in
-    body_refused (capacity 9 (length c.args.nodes.now)) (capacity 5 (length c.args.outputs.now)) c.args.head ls c.in-Refused.e
-    (rows_told (length ls) c.read_gates-r.new.nodes c.read_gates-r.new.wires (length c.args.nodes.now) (length c.args.nodes.now) refl ls _ (start c.args.head) (start_is c.args.head c.args.wires.now c.requires.wires_zero) c.read_gates-r.result c.in-Refused.is c.read_gates-r.ensures)
-
-pub returns-in-Refused-o : goal.returns-in-Refused-o
-returns-in-Refused-o c =
-    let ls : List (List ℕ) = kept_lines (drop c.args.rest c.args.text.now) in
-    let from : ℕ = c.args.head.wires - c.args.head.outputs in
-    body-outputs (capacity 9 (length c.args.nodes.now)) (capacity 5 (length c.args.outputs.now)) c.args.head ls c.read_gates-r.new.nodes c.read_gates-r.new.wires c.in-Are.next.0 c.in-Are.rows
-    (rows_told (length ls) c.read_gates-r.new.nodes c.read_gates-r.new.wires (length c.args.nodes.now) (length c.args.nodes.now) refl ls _ (start c.args.head) (start_is c.args.head c.args.wires.now c.requires.wires_zero) c.read_gates-r.result c.in-Are.is c.read_gates-r.ensures)
-    c.in-Refused-o.e c.if-rows-head.false (subst (OutputsAre c.put_wires-o.new.outputs (outputs_from (capacity 5 (length c.args.outputs.now)) from (drop from c.read_gates-r.new.wires) [])) c.in-Refused-o.is c.put_wires-o.ensures)
-
-pub returns-in-Are-o : goal.returns-in-Are-o
-returns-in-Are-o c =
-    let ls : List (List ℕ) = kept_lines (drop c.args.rest c.args.text.now) in
-    let from : ℕ = c.args.head.wires - c.args.head.outputs in
-    body_built (capacity 9 (length c.args.nodes.now)) (capacity 5 (length c.args.outputs.now)) c.args.head ls c.read_gates-r.new.nodes c.read_gates-r.new.wires c.in-Are.next.0 c.in-Are.rows
-    (rows_told (length ls) c.read_gates-r.new.nodes c.read_gates-r.new.wires (length c.args.nodes.now) (length c.args.nodes.now) refl ls _ (start c.args.head) (start_is c.args.head c.args.wires.now c.requires.wires_zero) c.read_gates-r.result c.in-Are.is c.read_gates-r.ensures)
-    c.put_wires-o.new.outputs c.in-Are-o.m c.if-rows-head.false (subst (OutputsAre c.put_wires-o.new.outputs (outputs_from (capacity 5 (length c.args.outputs.now)) from (drop from c.read_gates-r.new.wires) [])) c.in-Are-o.is c.put_wires-o.ensures)
+pub returns : goal.returns
+returns c =
+    let ls = kept_lines (drop c.args.rest c.args.text.now) in
+    let n = length c.args.nodes.now in
+    body_built (capacity 9 n) (capacity 5 (length c.args.outputs.now)) c.args.head ls c.read_gates.new.nodes c.read_gates.new.wires c.in_ok-read.read.next.0 c.in_ok-read.read.rows
+    (rows_told (length ls) c.read_gates.new.nodes c.read_gates.new.wires n n refl ls _ (start c.args.head) (start_is c.args.head c.args.wires.now c.requires.wires_zero) (Ok c.in_ok-read.read) c.in_ok-read.ensures)
+    c.put_wires.new.outputs c.in_ok-count.count c.if-read-head.false c.in_ok-count.ensures

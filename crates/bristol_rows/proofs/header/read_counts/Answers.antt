@@ -1,22 +1,22 @@
-use native.Mathlib.Omega.{arith}
-use Rattle.bristol_rows.specs.Promises.{words_from}
+use Rattle.std.proofs.lemmas.Result.{err_from_is_err_and}
 use Rattle.bristol_rows.proofs.HeaderLineLaws.{first-none, first_bad, first-after}
-use Rattle.bristol_rows.proofs.NumberLaws.{each_none, each_invalid, each_value}
-use Rattle.text.specs.Numbers.{parse_each}
+use Rattle.bristol_rows.proofs.Exits.{refusal_given}
+use Rattle.bristol_rows.proofs.NumberLaws.{words_whole, each_none, each_invalid, each_value}
 use Rattle.bristol_rows.proofs.header.read_counts.Goals as goal
 
-pub returns-then-x-eq0 : goal.returns-then-x-eq0
-returns-then-x-eq0 c =
-    first-none _ (each_none c.args.text.now c.args.from c.args.end c.next_number-x.result c.next_number-x.ensures c.if-x-eq0.true)
+pub returns-in_err-x : goal.returns-in_err-x
+returns-in_err-x c =
+    let p = err_from_is_err_and c.from_residual.result c.from_residual.ensures.1 in
+    let n = c.in_err-x.ensures.ok_part in
+    rw (p.1, p.2, refusal_given _ _ _ c.in_err-x.ensures.value, ← words_whole c.args.line.now) (first-none _ (each_none c.args.line.now 0 (rw n at c.next_number.ensures)))
 
-pub returns-in_default : goal.returns-in_default
-returns-in_default c =
-    first_bad _ (each_invalid c.args.text.now c.args.from c.args.end c.next_number-x.result c.next_number-x.ensures c.if-x-eq0.false c.in_default.is)
-
-pub read_wires-requires : goal.read_wires-requires
-read_wires-requires c = (c.next_number-x.ensures.within, omega arith)
+pub returns-in_err-gates : goal.returns-in_err-gates
+returns-in_err-gates c =
+    let p = err_from_is_err_and c.from_residual-in_err-gates.result c.from_residual-in_err-gates.ensures.1 in
+    let n = c.in_err-gates.ensures.ok_part in
+    rw (p.1, p.2, refusal_given _ _ _ c.in_err-gates.ensures.value, ← words_whole c.args.line.now) (first_bad _ (each_invalid c.args.line.now 0 c.in_ok-x.x (rw c.in_ok-x.ensures.ok_part at c.next_number.ensures) n))
 
 pub returns : goal.returns
 returns c =
-    let v = each_value c.args.text.now c.args.from c.args.end c.next_number-x.result c.next_number-x.ensures c.if-x-eq0.false c.in-Value.gates c.in-Value.is in
-    first-after c.in-Value.gates c.read_wires.result (parse_each (words_from c.args.text.now c.next_number-x.result.next c.args.end)) _ c.read_wires.ensures v
+    let v = each_value c.args.line.now 0 c.in_ok-x.x (rw c.in_ok-x.ensures.ok_part at c.next_number.ensures) c.in_ok-gates.gates c.in_ok-gates.ensures.ok_part in
+    rw (← words_whole c.args.line.now) (first-after c.in_ok-gates.gates c.read_wires.result _ _ c.read_wires.ensures v)

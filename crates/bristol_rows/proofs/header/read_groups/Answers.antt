@@ -1,44 +1,28 @@
-use native.Mathlib.Omega.{arith}
-use Rattle.bristol_rows.proofs.HeaderLaws.{lines-first, mismatch_invalid, mismatch_both, mismatch_first, total_fits, total_invalid, total_mismatch, total_both}
+use Rattle.std.proofs.lemmas.Result.{err_from_is_err_and}
+use Rattle.bristol_rows.proofs.HeaderLaws.{lines-first, lines_second, no_first, no_second, both_totals}
 use Rattle.bristol_rows.proofs.header.read_groups.Goals as goal
 
-pub grouped_wire_count-i-requires : goal.grouped_wire_count-i-requires
-grouped_wire_count-i-requires c = (omega arith, omega arith)
+pub returns-in_err-inputs : goal.returns-in_err-inputs
+returns-in_err-inputs c =
+    let p = err_from_is_err_and c.from_residual.result c.from_residual.ensures.1 in
+    rw (p.1, p.2) (lines-first c.args.gates c.args.wires c.args.b.now c.args.c.now _ c.in_err-inputs.ensures)
 
-pub grouped_wire_count-o-requires : goal.grouped_wire_count-o-requires
-grouped_wire_count-o-requires c = (omega arith, omega arith)
+pub returns-in_err-outputs : goal.returns-in_err-outputs
+returns-in_err-outputs c =
+    let p = err_from_is_err_and c.from_residual-in_err-outputs.result c.from_residual-in_err-outputs.ensures.1 in
+    rw (p.1, p.2) (lines_second c.args.gates c.args.wires c.args.b.now c.args.c.now c.in_ok-inputs.inputs c.in_ok-inputs.ensures _ _ c.in_err-outputs.ensures)
 
-pub returns-then-wires-inputs : goal.returns-then-wires-inputs
-returns-then-wires-inputs c =
-    absurd (omega (arith, total_fits c.args.gates c.args.wires c.args.text.now c.args.b.start c.args.b.len c.args.c.start c.args.c.len c.grouped_wire_count-i.result c.grouped_wire_count-i.ensures c.in-Total.inputs c.in-Total.is))
+pub returns-in_default : goal.returns-in_default
+returns-in_default c =
+    no_second c.args.gates c.args.wires c.args.b.now c.args.c.now c.in_ok-inputs.inputs c.in_ok-inputs.ensures c.in_ok-outputs.outputs
+    (rw c.unwrap_or.ensures at c.in_ok-outputs.ensures) c.in_default.field-0-0 c.in_default.is-0 c.in_default.is-1
 
-pub grouped_wire_count-o-requires-in-Total : goal.grouped_wire_count-o-requires-in-Total
-grouped_wire_count-o-requires-in-Total c = (omega arith, omega arith)
+pub returns-in_default-2 : goal.returns-in_default-2
+returns-in_default-2 c =
+    no_first c.args.gates c.args.wires c.args.b.now c.args.c.now c.in_ok-inputs.inputs c.in_ok-inputs.ensures c.in_ok-outputs.outputs
+    (rw c.unwrap_or.ensures at c.in_ok-outputs.ensures) c.in_default.is-0
 
-pub returns-in-Invalid : goal.returns-in-Invalid
-returns-in-Invalid c =
-    lines-first c.args.gates c.args.wires c.args.text.now c.args.b.start c.args.b.len c.args.c.start c.args.c.len c.grouped_wire_count-i.result c.grouped_wire_count-i.ensures c.in-Invalid.is
-
-pub returns-in-Invalid-o : goal.returns-in-Invalid-o
-returns-in-Invalid-o c =
-    mismatch_invalid c.args.gates c.args.wires c.args.text.now c.args.b.start c.args.b.len c.args.c.start c.args.c.len c.grouped_wire_count-i.result c.grouped_wire_count-i.ensures c.in-Mismatch.is c.grouped_wire_count-o.result c.grouped_wire_count-o.ensures c.in-Invalid-o.is
-
-pub returns-in-Mismatch-o : goal.returns-in-Mismatch-o
-returns-in-Mismatch-o c =
-    mismatch_both c.args.gates c.args.wires c.args.text.now c.args.b.start c.args.b.len c.args.c.start c.args.c.len c.grouped_wire_count-i.result c.grouped_wire_count-i.ensures c.in-Mismatch.is c.grouped_wire_count-o.result c.grouped_wire_count-o.ensures c.in-Mismatch-o.is
-
-pub returns-in-Total-o : goal.returns-in-Total-o
-returns-in-Total-o c =
-    mismatch_first c.args.gates c.args.wires c.args.text.now c.args.b.start c.args.b.len c.args.c.start c.args.c.len c.grouped_wire_count-i.result c.grouped_wire_count-i.ensures c.in-Mismatch.is c.grouped_wire_count-o.result c.grouped_wire_count-o.ensures c.in-Total-o.field-0 c.in-Total-o.is
-
-pub returns-in-Invalid-o-2 : goal.returns-in-Invalid-o-2
-returns-in-Invalid-o-2 c =
-    total_invalid c.args.gates c.args.wires c.args.text.now c.args.b.start c.args.b.len c.args.c.start c.args.c.len c.grouped_wire_count-i.result c.grouped_wire_count-i.ensures c.in-Total.inputs c.in-Total.is c.grouped_wire_count-o-in-Total.result c.grouped_wire_count-o-in-Total.ensures c.in-Invalid-o-2.is
-
-pub returns-in-Mismatch-o-2 : goal.returns-in-Mismatch-o-2
-returns-in-Mismatch-o-2 c =
-    total_mismatch c.args.gates c.args.wires c.args.text.now c.args.b.start c.args.b.len c.args.c.start c.args.c.len c.grouped_wire_count-i.result c.grouped_wire_count-i.ensures c.in-Total.inputs c.in-Total.is c.grouped_wire_count-o-in-Total.result c.grouped_wire_count-o-in-Total.ensures c.in-Mismatch-o-2.is
-
-pub returns-in-Total-o-2 : goal.returns-in-Total-o-2
-returns-in-Total-o-2 c =
-    total_both c.args.gates c.args.wires c.args.text.now c.args.b.start c.args.b.len c.args.c.start c.args.c.len c.grouped_wire_count-i.result c.grouped_wire_count-i.ensures c.in-Total.inputs c.in-Total.is c.grouped_wire_count-o-in-Total.result c.grouped_wire_count-o-in-Total.ensures c.in-Total-o-2.outputs c.args.c.next c.in-Total-o-2.is
+pub returns : goal.returns
+returns c =
+    both_totals c.args.gates c.args.wires c.args.b.now c.args.c.now c.in_ok-inputs.inputs c.in_ok-inputs.ensures c.in_ok-outputs.outputs
+    (rw c.unwrap_or.ensures at c.in_ok-outputs.ensures) c.in-Some-Some.inputs c.in-Some-Some.is-0 c.in-Some-Some.outputs c.args.rest c.in-Some-Some.is-1

@@ -1,18 +1,18 @@
-use mathlib.Core.Path.{sym, ◌∙◌}
-use Rattle.circuit.proofs.Checks.{not-whole_nodes, not-whole-outputs, is_whole, records_partial, records_whole}
+use Rattle.std.proofs.Common.{sym}
+use mathlib.Core.Path.{◌∙◌}
+use Rattle.circuit.proofs.Checks.{records_partial, records_whole}
+use Rattle.circuit.proofs.check.check_records.Goals.{then-not-are_whole-via-then-not-are_whole, then-not-are_whole-via-else-not-are_whole+then-some_broken, then-not-are_whole-via-else-not-are_whole+else-some_broken+then-some_output_outside}
 use Rattle.circuit.proofs.check.check_records.Goals as goal
 
-pub returns-then-some_broken : goal.returns-then-some_broken
-returns-then-some_broken c = sym (records_whole c.args.nodes.now c.args.outputs.now (is_whole _ _ c.if-nodes-eq0.true c.if-outputs-eq0.true) ∙ rw (sym c.some_broken.ensures ∙ c.if-some_broken.true))
+pub returns-then-not-are_whole : goal.returns-then-not-are_whole
+returns-then-not-are_whole c =
+    let nodes = c.args.nodes.now in
+    let outputs = c.args.outputs.now in
+    elim c.then-not-are_whole.branch [
+      | then-not-are_whole-via-then-not-are_whole w ↦ records_partial nodes outputs (sym w.if-not-are_whole.ensures)
+      | then-not-are_whole-via-else-not-are_whole+then-some_broken w ↦ sym (records_whole nodes outputs (sym w.if-not-are_whole.ensures) ∙ rw (sym w.if-some_broken.ensures))
+      | then-not-are_whole-via-else-not-are_whole+else-some_broken+then-some_output_outside w ↦ sym (records_whole nodes outputs (sym w.if-not-are_whole.ensures) ∙ rw (sym w.if-some_broken.ensures, sym w.if-some_output_outside.ensures))
+    ]
 
-pub returns-then-some_output_outside : goal.returns-then-some_output_outside
-returns-then-some_output_outside c = sym (records_whole c.args.nodes.now c.args.outputs.now (is_whole _ _ c.if-nodes-eq0.true c.if-outputs-eq0.true) ∙ rw (sym c.some_broken.ensures ∙ c.if-some_broken.false, sym c.some_output_outside.ensures ∙ c.if-some_output_outside.true))
-
-pub returns-then-outputs-eq0 : goal.returns-then-outputs-eq0
-returns-then-outputs-eq0 c = sym (records_whole c.args.nodes.now c.args.outputs.now (is_whole _ _ c.if-nodes-eq0.true c.if-outputs-eq0.true) ∙ rw (sym c.some_broken.ensures ∙ c.if-some_broken.false, sym c.some_output_outside.ensures ∙ c.if-some_output_outside.false))
-
-pub returns-else-outputs-eq0 : goal.returns-else-outputs-eq0
-returns-else-outputs-eq0 c = records_partial c.args.nodes.now c.args.outputs.now (not-whole-outputs _ _ c.if-nodes-eq0.true c.if-outputs-eq0.false)
-
-pub returns-else-nodes-eq0 : goal.returns-else-nodes-eq0
-returns-else-nodes-eq0 c = records_partial c.args.nodes.now c.args.outputs.now (not-whole_nodes _ _ c.if-nodes-eq0.false)
+pub returns : goal.returns
+returns c = sym (records_whole c.args.nodes.now c.args.outputs.now (sym c.if-not-are_whole.ensures) ∙ rw (sym c.if-some_broken.ensures, sym c.if-some_output_outside.ensures))

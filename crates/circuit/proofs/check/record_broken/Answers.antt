@@ -1,23 +1,24 @@
-use borrow.Author.Tests.{eq-eqb, ne_eqb}
-use Rattle.circuit.proofs.Checks.{wrong_count}
+use Rattle.std.proofs.Common.{arith}
+use borrow.Author.Tests.{ne_eqb}
 use Rattle.circuit.specs.Check.{record_broken, cell_broken}
+use Rattle.circuit.proofs.Checks.{wrong_count}
 use Rattle.circuit.proofs.check.record_broken.Goals as goal
 
-pub returns-then-n-eq1 : goal.returns-then-n-eq1
+pub returns-in-1-default : goal.returns-in-1-default
 unfolding record_broken
-returns-then-n-eq1 c = simp (eq-eqb _ _ c.if-n-eq1.true)
+returns-in-1-default c = rw c.in-1-default.is-0
 
-pub returns-then-n-eq1-2 : goal.returns-then-n-eq1-2
+pub returns-in-2-eq1 : goal.returns-in-2-eq1
 unfolding record_broken cell_broken
-returns-then-n-eq1-2 c = rw (ne_eqb _ _ c.if-n-eq1.false, eq-eqb _ _ c.if-n-eq2.true, c.if-n-eq1-2.true)
+returns-in-2-eq1 c = rw (c.in-2-eq1.is-0, c.in-2-eq1.is-1)
 
-pub returns-then-n-eq2-2 : goal.returns-then-n-eq2-2
+pub returns-in-2-eq2 : goal.returns-in-2-eq2
 unfolding record_broken cell_broken
-returns-then-n-eq2-2 c = rw (ne_eqb _ _ c.if-n-eq1.false, eq-eqb _ _ c.if-n-eq2.true, c.if-n-eq2-2.true)
+returns-in-2-eq2 c = rw (c.in-2-eq2.is-0, c.in-2-eq2.is-1)
 
-pub returns-else-n-eq2-2 : goal.returns-else-n-eq2-2
-returns-else-n-eq2-2 c = wrong_count c.args.n c.if-n-eq1.false c.if-n-eq2.true c.if-n-eq1-2.false c.if-n-eq2-2.false
+pub returns-in_default : goal.returns-in_default
+returns-in_default c = wrong_count c.args.n (λ e. omega arith) c.in_default.is-0 c.in_default.is-1.0.1 c.in_default.is-1.1
 
-pub returns-else-n-eq2 : goal.returns-else-n-eq2
+pub returns-in_default-2 : goal.returns-in_default-2
 unfolding record_broken
-returns-else-n-eq2 c = simp (ne_eqb _ _ c.if-n-eq1.false, ne_eqb _ _ c.if-n-eq2.false)
+returns-in_default-2 c = rw (ne_eqb _ _ c.in_default.is-0.0.1, ne_eqb _ _ c.in_default.is-0.1)

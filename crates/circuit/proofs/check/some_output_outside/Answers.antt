@@ -21,10 +21,10 @@ pub bounds-outputs-j : goal.bounds-outputs-j
 bounds-outputs-j c = omega (arith, c.requires)
 
 pub returns-then-not_below : goal.returns-then-not_below
-returns-then-not_below c = sym (c.loop-j.invariant.0 ∙ up_here (not_below c.args.m) (output_wire c.args.outputs.now) c.args.count c.loop-j.j c.loop-j-test.true (ap (not_below c.args.m) (sym c.wire_of-w.ensures) ∙ sym c.not_below.ensures ∙ c.if-not_below.true))
+returns-then-not_below c = sym (c.loop-j.invariant.0 ∙ up_here (not_below c.args.m) (output_wire c.args.outputs.now) c.args.count c.loop-j.j c.loop-j-test.true (ap (not_below c.args.m) (sym c.from-w.ensures) ∙ sym c.not_below.ensures ∙ c.if-not_below.true))
 
 pub loop-j-preserved : goal.loop-j-preserved
-loop-j-preserved c = (c.loop-j.invariant.0 ∙ up_later (not_below c.args.m) (output_wire c.args.outputs.now) c.args.count c.loop-j.j c.loop-j-test.true (ap (not_below c.args.m) (sym c.wire_of-w.ensures) ∙ sym c.not_below.ensures ∙ c.if-not_below.false), omega arith)
+loop-j-preserved c = (c.loop-j.invariant.0 ∙ up_later (not_below c.args.m) (output_wire c.args.outputs.now) c.args.count c.loop-j.j c.loop-j-test.true (ap (not_below c.args.m) (sym c.from-w.ensures) ∙ sym c.not_below.ensures ∙ c.if-not_below.false), omega arith)
 
 pub returns : goal.returns
 returns c = sym (c.loop-j.invariant.0 ∙ up_past (not_below c.args.m) (output_wire c.args.outputs.now) c.args.count c.loop-j.j c.loop-j-test.false)

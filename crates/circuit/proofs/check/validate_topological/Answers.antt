@@ -1,18 +1,19 @@
-use mathlib.Core.Path.{sym, ◌∙◌}
-use Rattle.circuit.proofs.Checks.{not-whole_nodes, not-whole-outputs, is_whole, topological_partial, topological_whole}
+use Rattle.std.proofs.Common.{sym}
+use mathlib.Core.Path.{◌∙◌}
+use Rattle.std.proofs.lemmas.Result.{err_from_is_err_and}
+use Rattle.circuit.proofs.Checks.{topological_partial, topological_whole}
 use Rattle.circuit.proofs.check.validate_topological.Goals as goal
 
-pub returns-in-Refused : goal.returns-in-Refused
-returns-in-Refused c = sym (topological_whole c.args.nodes.now c.args.outputs.now (is_whole _ _ c.if-nodes-eq0.true c.if-outputs-eq0.true) ∙ rw (sym c.check_nodes-fault.ensures ∙ c.in-Refused.is))
+pub returns-then-not-are_whole : goal.returns-then-not-are_whole
+returns-then-not-are_whole c = topological_partial c.args.nodes.now c.args.outputs.now (sym c.if-not-are_whole.ensures)
+
+pub returns-in_err-check_nodes : goal.returns-in_err-check_nodes
+returns-in_err-check_nodes c =
+    let p = err_from_is_err_and c.from_residual.result c.from_residual.ensures.1 in
+    rw (p.1, p.2) (sym (topological_whole c.args.nodes.now c.args.outputs.now (sym c.if-not-are_whole.ensures) ∙ rw (sym c.in_err-check_nodes.ensures)))
 
 pub returns-then-some_output_outside : goal.returns-then-some_output_outside
-returns-then-some_output_outside c = sym (topological_whole c.args.nodes.now c.args.outputs.now (is_whole _ _ c.if-nodes-eq0.true c.if-outputs-eq0.true) ∙ rw (sym c.check_nodes-fault.ensures ∙ c.in-Sound.is, sym c.some_output_outside.ensures ∙ c.if-some_output_outside.true))
+returns-then-some_output_outside c = sym (topological_whole c.args.nodes.now c.args.outputs.now (sym c.if-not-are_whole.ensures) ∙ rw (sym c.in_ok-check_nodes.ensures, sym c.if-some_output_outside.ensures))
 
-pub returns-in-Sound : goal.returns-in-Sound
-returns-in-Sound c = sym (topological_whole c.args.nodes.now c.args.outputs.now (is_whole _ _ c.if-nodes-eq0.true c.if-outputs-eq0.true) ∙ rw (sym c.check_nodes-fault.ensures ∙ c.in-Sound.is, sym c.some_output_outside.ensures ∙ c.if-some_output_outside.false))
-
-pub returns-else-outputs-eq0 : goal.returns-else-outputs-eq0
-returns-else-outputs-eq0 c = topological_partial c.args.nodes.now c.args.outputs.now (not-whole-outputs _ _ c.if-nodes-eq0.true c.if-outputs-eq0.false)
-
-pub returns-else-nodes-eq0 : goal.returns-else-nodes-eq0
-returns-else-nodes-eq0 c = topological_partial c.args.nodes.now c.args.outputs.now (not-whole_nodes _ _ c.if-nodes-eq0.false)
+pub returns : goal.returns
+returns c = sym (topological_whole c.args.nodes.now c.args.outputs.now (sym c.if-not-are_whole.ensures) ∙ rw (sym c.in_ok-check_nodes.ensures, sym c.if-some_output_outside.ensures))

@@ -1,13 +1,10 @@
-use mathlib.Core.Path.{sym, ap}
-use lib.ListN.{length}
-use Rattle.circuit.proofs.Checks.{count_few, count_most, no-wires}
+use Rattle.std.proofs.Common.{sym, ap, length}
+use mathlib.Core.Path.{◌∙◌}
+use Rattle.circuit.proofs.Checks.{no-wires, few_wires}
 use Rattle.circuit.proofs.records.wire_count.Goals as goal
 
-pub returns-then-n-lt2 : goal.returns-then-n-lt2
-returns-then-n-lt2 c = count_few c.args.n c.if-n-eq2.true c.if-n-lt2.true
-
 pub returns-then-n-eq2 : goal.returns-then-n-eq2
-returns-then-n-eq2 c = count_most c.args.n c.if-n-eq2.true c.if-n-lt2.false
+returns-then-n-eq2 c = c.min.ensures ∙ few_wires c.args.n c.if-n-eq2.true
 
-pub returns : goal.returns
-returns c = sym (ap length (no-wires c.args.n c.if-n-eq2.false))
+pub returns-else-n-eq2 : goal.returns-else-n-eq2
+returns-else-n-eq2 c = sym (ap length (no-wires c.args.n c.if-n-eq2.false))

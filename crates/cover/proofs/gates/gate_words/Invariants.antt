@@ -1,12 +1,17 @@
-use Prim.Native.Nat.{◌+◌, ◌-◌, ◌≤◌}
+use Prim.Native.Nat.{◌+◌, ◌≤◌}
 use mathlib.Core.Path.{◌≡◌}
-use Rattle.laws.specs.Stretches.{stretch}
-use Rattle.text.specs.Words.{words}
+use lib.ListN.{length}
+use Rattle.laws.specs.Stretches.{All}
+use Rattle.text.specs.Words.{IsWord, words_between}
+use Rattle.text.proofs.WordLaws.{words_left}
 use Rattle.cover.specs.Gates.{noted, no_gate, GateFits}
 use Rattle.cover.proofs.gates.gate_words.Given as goal
 
-abbrev pub invariant-loop-at : goal.invariant-loop-at
-invariant-loop-at l = (l.from ≤ l.at) × (l.at ≤ l.end) × (l.g.count + l.from ≤ l.at) × GateFits l.end l.g × (noted l.g (words l.at (stretch l.text l.at (l.end - l.at))) ≡ noted no_gate (words l.from (stretch l.text l.from (l.end - l.from))))
-
-abbrev pub decreases-loop-at : goal.decreases-loop-at
-decreases-loop-at l = l.end - l.at
+abbrev pub invariant-loop-word : goal.invariant-loop-word
+invariant-loop-word l =
+    (goal.iterator-loop-word).can_next l.word-iterator
+    × (goal.iterator-loop-word).is_finite l.word-iterator
+    × All (IsWord l.text l.from l.end) (words_left l.word-iterator)
+    × (l.gate.count + length (words_left l.word-iterator) ≤ l.end)
+    × GateFits l.end l.gate
+    × (noted l.gate (words_left l.word-iterator) ≡ noted no_gate (words_between l.text l.from l.end))

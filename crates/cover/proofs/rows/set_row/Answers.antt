@@ -1,28 +1,23 @@
-use mathlib.Core.Path.{◌∙◌}
+use Prim.Native.Nat.{◌^◌}
+use mathlib.Core.Path.{refl, ◌∙◌}
 use native.Mathlib.Omega.{arith}
 use Rattle.laws.specs.Stretches.{stretch}
-use Rattle.cover.proofs.RowLaws.{set-start, set-step, set_end}
+use Rattle.cover.proofs.RowLaws.{set-yes, set_no, set-start, set-step, set_end}
 use Rattle.cover.proofs.rows.set_row.Goals as goal
-
-pub entry_count-m-requires : goal.entry_count-m-requires
-entry_count-m-requires c = omega arith
+use Rattle.cover.proofs.rows.set_row.Goals.{then-pattern_matches, else-pattern_matches}
 
 pub loop-j-init : goal.loop-j-init
-loop-j-init c = (omega arith, c.entry_count-m.ensures.2, set-start (stretch c.args.text.now c.args.start c.args.inputs) c.args.inputs c.args.value _ c.args.table c.entry_count-m.ensures.0)
-
-pub set_if-t-requires : goal.set_if-t-requires
-set_if-t-requires c = omega arith
-
-pub overflow_add-j : goal.overflow_add-j
-overflow_add-j c = omega arith
-
-pub loop-j-smaller : goal.loop-j-smaller
-loop-j-smaller c = omega arith
+loop-j-init c = set-start (stretch c.args.text.now c.args.row.start c.args.inputs) c.args.inputs c.args.row.value _ c.args.table refl
 
 pub loop-j-preserved : goal.loop-j-preserved
 loop-j-preserved c =
-    (omega arith, c.loop-j.invariant.1, set-step (stretch c.args.text.now c.args.start c.args.inputs) c.args.value c.loop-j.j _ c.loop-j.t _ (omega arith) c.set_if-t.ensures ∙ c.loop-j.invariant.2)
+    let p = stretch c.args.text.now c.args.row.start c.args.inputs in
+    set-step p c.args.row.value c.loop-j.j (2 ^ c.args.inputs) c.loop-j.t _ (omega (arith, c.entry_count-j-end.ensures.0))
+    (elim c.if-pattern_matches.branch [
+      | then-pattern_matches w ↦ set-yes p c.args.row.value c.loop-j.j c.loop-j.t _ c.pattern_matches.ensures _ w.if-pattern_matches.true (w.t-is ∙ w.set_table_entry-t.ensures)
+      | else-pattern_matches w ↦ w.t-is ∙ set_no p c.args.row.value c.loop-j.j c.loop-j.t _ c.pattern_matches.ensures w.if-pattern_matches.false
+    ]) ∙ c.loop-j.invariant
 
 pub returns : goal.returns
 returns c =
-    set_end (stretch c.args.text.now c.args.start c.args.inputs) c.args.value c.loop-j.j _ c.loop-j.t c.loop-j-test.false ∙ c.loop-j.invariant.2
+    set_end (stretch c.args.text.now c.args.row.start c.args.inputs) c.args.row.value c.loop-j.j (2 ^ c.args.inputs) c.loop-j.t (omega (arith, c.entry_count-j-end.ensures.0)) ∙ c.loop-j.invariant

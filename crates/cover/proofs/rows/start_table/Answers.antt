@@ -8,8 +8,8 @@ use Rattle.cover.proofs.rows.start_table.Goals as goal
 pub returns-then-value-eq1 : goal.returns-then-value-eq1
 returns-then-value-eq1 c = start-one _ _ c.if-value-eq1.true
 
-pub returns : goal.returns
-returns c =
+pub returns-else-value-eq1 : goal.returns-else-value-eq1
+returns-else-value-eq1 c =
     let e : c.args.value ≡ 0 = omega arith in
-    let q = c.entry_count-m.ensures.0 in
-    start-zero c.args.inputs c.args.value _ e (shifted_ones 64 _ c.entry_count-m.ensures.2 ∙ ap (λ (m : ℕ). 2 ^ m - 1) q)
+    let q = c.entry_count.ensures.0 in
+    start-zero c.args.inputs c.args.value _ e (shifted_ones 64 _ c.entry_count.ensures.2 ∙ ap (λ (m : ℕ). 2 ^ m - 1) q)

@@ -1,10 +1,8 @@
-use Rattle.text.proofs.WriteLaws.{puts_then}
+use Rattle.std.proofs.Common.{rules, append_assoc}
 use Rattle.listing.specs.Listing.{output_line}
-use Rattle.listing.proofs.LineLaws.{line_of, output-line}
+use Rattle.listing.proofs.LineLaws.{output_line_of}
 use Rattle.listing.proofs.lines.put_output.Goals as goal
 
 pub returns : goal.returns
 unfolding output_line
-returns c =
-    output-line _ _ _ _ _ _ c.output_at-o.ensures
-    (line_of _ _ _ _ (puts_then _ _ _ _ _ _ _ _ c.put_bytes-a.ensures (puts_then _ _ _ _ _ _ _ _ c.put_name-b.ensures.puts (puts_then _ _ _ _ _ _ _ _ c.put_wire_word-c.ensures.puts c.put_byte.ensures))))
+returns g c = rw (← output_line_of c.args.text.now c.args.outputs.now c.args.j _ c.output_at-o.ensures) (search (rules, append_assoc))

@@ -1,23 +1,23 @@
-use Prim.Native.Nat.{◌<◌, ◌^◌}
-use mathlib.Core.List.{[]}
-use native.Mathlib.Omega.{arith}
-use borrow.Author.Rules.{rules}
-use Rattle.listing.proofs.PieceLaws.{put_digit, digit_room, put_digits}
-use Prim.Native.Nat.{◌<◌}
+use Rattle.std.proofs.Common.{◌∷◌, [], ◌/◌, length, length-append, ap, ◌∙◌, append_assoc, rules, arith}
+use Rattle.listing.specs.Decimal.{decimal}
+use Rattle.listing.proofs.Decimals.{decimal-one, decimal_more, digits_tenth}
 use Rattle.listing.proofs.pieces.+put_decimal.Goals as goal
 
-pub returns-then-n-lt10 : goal.returns-then-n-lt10
-returns-then-n-lt10 t c = put_digit _ _ _ _ _ _ c.if-n-lt10.true c.digit-d.ensures c.put_byte.ensures
+pub returns-then-n-lt10-clause-items : goal.returns-then-n-lt10-clause-items
+returns-then-n-lt10-clause-items g t c = rw (decimal-one c.args.n c.if-n-lt10.true, ← c.digit.ensures) c.push.ensures.items
 
-pub put_decimal-a-requires : goal.put_decimal-a-requires
-put_decimal-a-requires t c = (omega arith, search rules)
+pub push-requires-else-n-lt10 : goal.push-requires-else-n-lt10
+push-requires-else-n-lt10 g t c =
+    let d = digits_tenth c.args.n (omega arith) in
+    let z = ap length c.put_decimal.ensures.items ∙ length-append c.args.line.now.items (decimal (c.args.n / 10)) in
+    (search rules, omega arith)
 
-pub put_byte-requires-2 : goal.put_byte-requires-2
-put_byte-requires-2 t c =
-    let h : c.args.n < 2 ^ 64 = omega arith in
-    digit_room c.args.line.now _ [] c.args.at _ 0 c.args.n 0 h c.put_decimal-a.ensures _ (omega arith)
+pub returns-else-n-lt10-clause-items : goal.returns-else-n-lt10-clause-items
+returns-else-n-lt10-clause-items g t c =
+    rw (decimal_more c.args.n c.if-n-lt10.false, ← c.digit-else-n-lt10.ensures, c.push-else-n-lt10.ensures.items, c.put_decimal.ensures.items) (append_assoc c.args.line.now.items (decimal (c.args.n / 10)) (c.digit-else-n-lt10.result ∷ []))
 
-pub returns : goal.returns
-returns t c =
-    let h : c.args.n < 2 ^ 64 = omega arith in
-    put_digits _ _ _ _ _ _ c.args.n _ h c.put_decimal-a.ensures c.if-n-lt10.false c.digit-d-2.ensures c.put_byte-2.ensures
+pub returns-else-n-lt10-clause-within : goal.returns-else-n-lt10-clause-within
+returns-else-n-lt10-clause-within g t c =
+    let d = digits_tenth c.args.n (omega arith) in
+    let z = ap length c.put_decimal.ensures.items ∙ length-append c.args.line.now.items (decimal (c.args.n / 10)) in
+    omega arith

@@ -1,12 +1,9 @@
 use mathlib.Core.Path.{◌≡◌}
-use Prim.Native.Nat.{◌-◌, ◌≤◌}
+use Prim.Native.Nat.{◌≤◌}
 use lib.ListN.{length}
 use Rattle.names.specs.Chains.{entries}
 use Rattle.reading.proofs.Resolving.{Mid}
 use Rattle.reading.proofs.outputs.resolve_outputs.Given as goal
 
 abbrev pub invariant-loop-j : goal.invariant-loop-j
-invariant-loop-j l = (l.j ≤ l.n) × (length l.outputs ≡ length l.initial.outputs) × Mid l.constants l.text (entries l.names l.count) l.initial.outputs l.outputs l.n l.j
-
-abbrev pub decreases-loop-j : goal.decreases-loop-j
-decreases-loop-j l = l.n - l.j
+invariant-loop-j l = (l.j ≤ l.n) × (length l.outputs ≡ length l.initial.outputs) × Mid l.constants l.table.text.now (entries l.table.names.now l.table.count) l.initial.outputs l.outputs l.n l.j

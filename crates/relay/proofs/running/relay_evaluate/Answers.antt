@@ -1,5 +1,6 @@
 use mathlib.Core.Path.{◌∙◌}
+use Rattle.relay.proofs.Calls.{result_given}
 use Rattle.relay.proofs.running.relay_evaluate.Goals as goal
 
 pub returns : goal.returns
-returns c = c.answer_evaluated.ensures _ _ ∙ c.evaluate-evaluated.ensures
+returns c = result_given _ _ _ _ _ c.answer_counted.ensures ∙ c.evaluate-evaluated.ensures

@@ -6,6 +6,7 @@ use Rattle.circuit.proofs.Checks.{below_more}
 use Rattle.runs.proofs.Turns.{word-ahead, word_behind}
 use Rattle.runs.proofs.Rules.{two_broken, first_broken, second_broken}
 use Rattle.runs.proofs.Places.{broken_place, place_two}
+use Rattle.runs.proofs.answers.two_wire_place.Goals.{then-x-nodes-via-then-x-nodes, then-x-nodes-via-else-x-nodes+then-x-nodes-2}
 use Rattle.runs.proofs.answers.two_wire_place.Goals as goal
 
 pub returns-then-table-ge16 : goal.returns-then-table-ge16
@@ -18,10 +19,10 @@ pub returns-then-both_earlier : goal.returns-then-both_earlier
 returns-then-both_earlier c = c.plain_place.ensures c.requires.2 c.requires.3 c.requires.4
 
 pub returns-then-x-nodes : goal.returns-then-x-nodes
-returns-then-x-nodes c = broken_place c.args.x (node_at c.args.nodes.now c.args.x) c.args.values.now (first_broken c.args.x (node_at c.args.nodes.now c.args.x) c.requires.3 (word-ahead c.args.x (get_or c.args.nodes.now (c.args.x * 9 + 7) 0) c.if-x-nodes.true))
-
-pub returns-then-x-nodes-2 : goal.returns-then-x-nodes-2
-returns-then-x-nodes-2 c = broken_place c.args.x (node_at c.args.nodes.now c.args.x) c.args.values.now (second_broken c.args.x (node_at c.args.nodes.now c.args.x) c.requires.3 c.requires.4 c.if-table-ge16.false (word_behind c.args.x (get_or c.args.nodes.now (c.args.x * 9 + 7) 0) c.if-x-nodes.false) (word-ahead c.args.x (get_or c.args.nodes.now (c.args.x * 9 + 8) 0) c.if-x-nodes-2.true))
+returns-then-x-nodes c = elim c.then-x-nodes.branch [
+  | then-x-nodes-via-then-x-nodes w ↦ broken_place c.args.x (node_at c.args.nodes.now c.args.x) c.args.values.now (first_broken c.args.x (node_at c.args.nodes.now c.args.x) c.requires.3 (word-ahead c.args.x (get_or c.args.nodes.now (c.args.x * 9 + 7) 0) w.if-x-nodes.true))
+  | then-x-nodes-via-else-x-nodes+then-x-nodes-2 w ↦ broken_place c.args.x (node_at c.args.nodes.now c.args.x) c.args.values.now (second_broken c.args.x (node_at c.args.nodes.now c.args.x) c.requires.3 c.requires.4 c.if-table-ge16.false (word_behind c.args.x (get_or c.args.nodes.now (c.args.x * 9 + 7) 0) w.if-x-nodes.false) (word-ahead c.args.x (get_or c.args.nodes.now (c.args.x * 9 + 8) 0) w.if-x-nodes-2.true))
+]
 
 pub wire_value-a-requires : goal.wire_value-a-requires
 wire_value-a-requires c = below_more c.args.x (length c.args.values.now) (omega (arith, c.requires.1)) (wire_of (get_or c.args.nodes.now (c.args.x * 9 + 7) 0)) (word_behind c.args.x (get_or c.args.nodes.now (c.args.x * 9 + 7) 0) c.if-x-nodes.false)

@@ -1,20 +1,22 @@
-use mathlib.Core.Path.{ap, ◌∙◌}
+use Rattle.std.proofs.Common.{sym, ap, replicate}
+use mathlib.Core.Path.{◌∙◌}
 use Prim.Native.Nat.{ℕ}
-use lib.ListN.{replicate}
+use Rattle.std.proofs.lemmas.Result.{err_from_is_err_and}
 use Rattle.runs.proofs.Calls.{evaluate_leaves, evaluate_refused}
 use Rattle.runs.proofs.Passing.{told, denied}
+use Rattle.runs.proofs.evaluate.evaluate.Goals.{then-not-evaluate_work+in_ok-evaluate_fault, else-not-evaluate_work}
 use Rattle.runs.proofs.evaluate.evaluate.Goals as goal
 
-pub returns-then-evaluate_work : goal.returns-then-evaluate_work
-returns-then-evaluate_work c =
-    let w = c.evaluate_work.ensures in
-    let g = w.1 c.if-evaluate_work.true in
-    evaluate_leaves c.args.nodes.now c.args.outputs.now c.args.assignment.now c.args.values.now c.args.answers.now (told c.evaluate_work.result w.0 c.if-evaluate_work.true) _ _ g.1 g.0
-
-pub evaluate_refusal-requires : goal.evaluate_refusal-requires
-evaluate_refusal-requires c = denied c.evaluate_work.result c.evaluate_work.ensures.0 c.if-evaluate_work.false
+pub returns-in_err-evaluate_fault : goal.returns-in_err-evaluate_fault
+returns-in_err-evaluate_fault c =
+    let p = err_from_is_err_and c.from_residual.result c.from_residual.ensures.1 in
+    rw (p.1, p.2) (evaluate_refused c.args.nodes.now c.args.outputs.now c.args.assignment.now c.args.values.now c.args.answers.now _ (sym c.in_err-evaluate_fault.ensures) _ _
+    (c.refuse.ensures.1 ∙ ap (λ (n : ℕ). replicate n 0) c.evaluate_work.auto.values) (c.refuse.ensures.0 ∙ ap (λ (n : ℕ). replicate n 0) c.evaluate_work.auto.answers))
 
 pub returns : goal.returns
-returns c =
-    evaluate_refused c.args.nodes.now c.args.outputs.now c.args.assignment.now c.args.values.now c.args.answers.now _ c.evaluate_refusal.ensures _ _
-    (c.refuse.ensures.1 ∙ ap (λ (n : ℕ). replicate n 0) c.evaluate_work.auto.values) (c.refuse.ensures.0 ∙ ap (λ (n : ℕ). replicate n 0) c.evaluate_work.auto.answers)
+returns c = elim c.if-not-evaluate_work.branch [
+  | then-not-evaluate_work+in_ok-evaluate_fault w ↦ absurd (denied c.evaluate_work.result c.evaluate_work.ensures.0 w.if-not-evaluate_work.true (sym w.in_ok-evaluate_fault.ensures))
+  | else-not-evaluate_work w ↦
+      let g = c.evaluate_work.ensures.1 w.if-not-evaluate_work.false in
+      rw (w.values-is, w.answers-is) (evaluate_leaves c.args.nodes.now c.args.outputs.now c.args.assignment.now c.args.values.now c.args.answers.now (told c.evaluate_work.result c.evaluate_work.ensures.0 w.if-not-evaluate_work.false) _ _ g.1 g.0)
+]

@@ -8,6 +8,7 @@ use Rattle.circuit.specs.Check.{nodes_in, wires_in}
 use Rattle.circuit.proofs.Checks.{all_below_more}
 use Rattle.runs.proofs.Evaluating.{values-outputs}
 use Rattle.runs.proofs.Passing.{told, denied, evaluate_sound, evaluate_prepared, evaluate_passing}
+use Rattle.runs.proofs.evaluate.evaluate_work.Goals.{else-prepared-via-then-prepared+else-put_values, else-prepared-via-else-prepared}
 use Rattle.runs.proofs.evaluate.evaluate_work.Goals as goal
 
 pub put_values-requires : goal.put_values-requires
@@ -32,10 +33,11 @@ returns-then-put_values c =
       ),
     )
 
-pub returns-else-put_values : goal.returns-else-put_values
-returns-else-put_values c =
-    (λ e. denied c.put_values.result c.put_values.ensures.0 c.if-put_values.false (evaluate_passing c.args.nodes.now c.args.outputs.now c.args.assignment.now (length c.args.values.now) (length c.args.answers.now) e), λ e. absurd (false≢true e))
-
-pub returns-else-prepared : goal.returns-else-prepared
-returns-else-prepared c =
-    (λ e. denied c.prepared.result c.prepared.ensures c.if-prepared.false (evaluate_prepared c.args.nodes.now c.args.outputs.now c.args.assignment.now (length c.args.values.now) (length c.args.answers.now) e), λ e. absurd (false≢true e))
+pub returns : goal.returns
+returns c = (
+  λ e. elim c.else-prepared.branch [
+    | else-prepared-via-then-prepared+else-put_values w ↦ denied w.put_values.result w.put_values.ensures.0 w.if-put_values.false (evaluate_passing c.args.nodes.now c.args.outputs.now c.args.assignment.now (length c.args.values.now) (length c.args.answers.now) e)
+    | else-prepared-via-else-prepared w ↦ denied c.prepared.result c.prepared.ensures w.if-prepared.false (evaluate_prepared c.args.nodes.now c.args.outputs.now c.args.assignment.now (length c.args.values.now) (length c.args.answers.now) e)
+  ],
+  λ e. absurd (false≢true e),
+)

@@ -1,5 +1,5 @@
-use mathlib.Core.Bool.{false≢true}
 use native.Mathlib.Omega.{arith}
+use Rattle.laws.proofs.Tests.{clash}
 use Rattle.runs.proofs.Valuing.{worked_start}
 use Rattle.runs.proofs.evaluate.put_all.Goals as goal
 
@@ -13,8 +13,8 @@ returns-then-put_cells c =
     let w = (c.put_cells.ensures c.args.count c.args.values.now c.stretch_end-few.ensures.1 c.requires.1 (worked_start c.args.nodes.now c.args.count c.args.values.now)).0 c.if-put_cells.true in
     c.put_cells-then-put_cells.ensures c.args.count c.args.values.now (omega arith) c.requires.1 w
 
-pub returns : goal.returns
-returns c = (
-  λ e. absurd (false≢true e),
+pub returns-else-put_cells : goal.returns-else-put_cells
+returns-else-put_cells c = (
+  λ e. absurd (clash e c.if-put_cells.false),
   λ e. (c.put_cells.ensures c.args.count c.args.values.now c.stretch_end-few.ensures.1 c.requires.1 (worked_start c.args.nodes.now c.args.count c.args.values.now)).1 c.if-put_cells.false,
 )

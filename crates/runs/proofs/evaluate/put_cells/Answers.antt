@@ -1,4 +1,4 @@
-use mathlib.Core.Path.{◌≡◌, ◌∙◌, subst}
+use mathlib.Core.Path.{◌≡◌, subst}
 use mathlib.Core.Bool.{false≢true, true≢false}
 use Prim.Native.Nat.{ℕ}
 use native.Mathlib.Omega.{arith}
@@ -13,20 +13,14 @@ loop-k-init c = going_start c.args.nodes.now c.args.from c.args.end c.args.value
 pub put_cell-requires : goal.put_cell-requires
 put_cell-requires c = record { inside = omega (arith, c.requires.0, c.loop-k-test.true); stored = omega (arith, c.requires.1, c.loop-k.invariant.kept, c.loop-k-test.true); known = c.loop-k.invariant.known }
 
-pub shape_of-values-else-put_cell : goal.shape_of-values-else-put_cell
-shape_of-values-else-put_cell c = c.put_cell.auto.values ∙ c.loop-k.invariant.kept
-
-pub returns-else-put_cell : goal.returns-else-put_cell
-returns-else-put_cell c = λ count old i r w. (
+pub returns-then-not-put_cell : goal.returns-then-not-put_cell
+returns-then-not-put_cell c = λ count old i r w. (
   λ e. absurd (false≢true e),
-  λ e. going_fails c.args.nodes.now c.args.from c.args.end c.args.values.now c.loop-k.k c.loop-k.values c.loop-k.invariant c.loop-k-test.true (denied c.put_cell.result c.put_cell.ensures.0 c.if-put_cell.false) count old i r w,
+  λ e. going_fails c.args.nodes.now c.args.from c.args.end c.args.values.now c.loop-k.k c.loop-k.values c.loop-k.invariant c.loop-k-test.true (denied c.put_cell.result c.put_cell.ensures.0 c.if-not-put_cell.true) count old i r w,
 )
 
 pub loop-k-preserved : goal.loop-k-preserved
-loop-k-preserved c = going_next c.args.nodes.now c.args.from c.args.end c.args.values.now c.loop-k.k c.loop-k.values c.loop-k.invariant c.loop-k-test.true _ (told c.put_cell.result c.put_cell.ensures.0 c.if-put_cell.true) (c.put_cell.ensures.1 c.if-put_cell.true)
-
-pub shape_of-values : goal.shape_of-values
-shape_of-values c = c.loop-k.invariant.kept
+loop-k-preserved c = going_next c.args.nodes.now c.args.from c.args.end c.args.values.now c.loop-k.k c.loop-k.values c.loop-k.invariant c.loop-k-test.true _ (told c.put_cell.result c.put_cell.ensures.0 c.if-not-put_cell.false) (c.put_cell.ensures.1 c.if-not-put_cell.false)
 
 pub returns : goal.returns
 returns c =

@@ -12,11 +12,11 @@ pub returns-then-marks-w : goal.returns-then-marks-w
 returns-then-marks-w c =
     λ taken m. mark_outside c.args.lo c.args.marks.now c.args.x taken m (high_out c.args.lo (block_size c.args.marks.now) c.args.x c.if-x-lo.false (omega (arith, c.if-marks-w.true)))
 
-pub returns-then-table_entry-eq0 : goal.returns-then-table_entry-eq0
-returns-then-table_entry-eq0 c =
-    λ taken m.
-    rw c.set_table_entry.ensures (mark_inside c.args.lo c.args.marks.now c.args.x taken m c.if-x-lo.false c.if-marks-w.false (sym c.table_entry.ensures ∙ c.if-table_entry-eq0.true))
+pub returns-then-table_entry-ne0 : goal.returns-then-table_entry-ne0
+returns-then-table_entry-ne0 c =
+    λ taken m. mark_twice c.args.lo c.args.marks.now c.args.x taken m _ c.if-x-lo.false c.if-marks-w.false (λ e. c.if-table_entry-ne0.true (c.table_entry.ensures ∙ e))
 
 pub returns : goal.returns
 returns c =
-    λ taken m. mark_twice c.args.lo c.args.marks.now c.args.x taken m _ c.if-x-lo.false c.if-marks-w.false (λ e. c.if-table_entry-eq0.false (c.table_entry.ensures ∙ e))
+    λ taken m.
+    rw c.set_table_entry.ensures (mark_inside c.args.lo c.args.marks.now c.args.x taken m c.if-x-lo.false c.if-marks-w.false (sym c.table_entry.ensures ∙ c.if-table_entry-ne0.false))

@@ -8,10 +8,7 @@ use Rattle.runs.specs.Fit.{wire_waits}
 use Rattle.runs.proofs.fitness.some_waits.Goals as goal
 
 pub loop-k-init : goal.loop-k-init
-loop-k-init c = (refl, zero-le, c.wire_count-wires.ensures)
-
-pub wire_at-w-requires : goal.wire_at-w-requires
-wire_at-w-requires c = omega (arith, c.loop-k.invariant.2)
+loop-k-init c = (refl, zero-le, c.wire_count-k-end.ensures)
 
 pub wire_waits-requires : goal.wire_waits-requires
 wire_waits-requires c =
@@ -20,9 +17,6 @@ wire_waits-requires c =
 pub returns-then-wire_waits : goal.returns-then-wire_waits
 returns-then-wire_waits c =
     sym (c.loop-k.invariant.0 ∙ some_here (wire_waits c.args.nodes.now c.args.lo c.args.marks.now) (wires_of c.args.n) no_wire c.loop-k.k (omega (arith, c.loop-k.invariant.2)) (ap (wire_waits c.args.nodes.now c.args.lo c.args.marks.now) (sym c.wire_at-w.ensures) ∙ sym c.wire_waits.ensures ∙ c.if-wire_waits.true))
-
-pub overflow_step-k : goal.overflow_step-k
-overflow_step-k c = omega (arith, c.loop-k.invariant.2)
 
 pub loop-k-preserved : goal.loop-k-preserved
 loop-k-preserved c = (

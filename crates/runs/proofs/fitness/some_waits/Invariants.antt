@@ -1,12 +1,9 @@
 use mathlib.Core.Path.{◌≡◌}
-use Prim.Native.Nat.{◌-◌, ◌≤◌}
+use Prim.Native.Nat.{◌≤◌}
 use lib.ListN.{length, drop}
 use Rattle.circuit.specs.Records.{wires_of}
 use Rattle.runs.specs.Fit.{some_waits}
 use Rattle.runs.proofs.fitness.some_waits.Given as goal
 
 abbrev pub invariant-loop-k : goal.invariant-loop-k
-invariant-loop-k l = (some_waits l.nodes l.lo l.marks (wires_of l.n) ≡ some_waits l.nodes l.lo l.marks (drop l.k (wires_of l.n))) × (l.k ≤ l.wires) × (l.wires ≡ length (wires_of l.n))
-
-abbrev pub decreases-loop-k : goal.decreases-loop-k
-decreases-loop-k l = l.wires - l.k
+invariant-loop-k l = (some_waits l.nodes l.lo l.marks (wires_of l.n) ≡ some_waits l.nodes l.lo l.marks (drop l.k (wires_of l.n))) × (l.k ≤ l.k-end) × (l.k-end ≡ length (wires_of l.n))

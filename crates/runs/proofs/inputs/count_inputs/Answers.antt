@@ -10,12 +10,6 @@ use Rattle.runs.proofs.inputs.count_inputs.Goals as goal
 pub loop-k-init : goal.loop-k-init
 loop-k-init c = (ap input_count (from_start c.args.nodes.now c.args.count) ∙ omega arith, zero-le, zero-le)
 
-pub input_at-n-requires : goal.input_at-n-requires
-input_at-n-requires c = omega (arith, c.requires)
-
-pub overflow_add-n : goal.overflow_add-n
-overflow_add-n c = omega (arith, cond_small (is_cell_node (node_at c.args.nodes.now c.loop-k.k)), c.input_at-n.ensures, c.requires)
-
 pub loop-k-preserved : goal.loop-k-preserved
 loop-k-preserved c = (
   omega (arith, c.loop-k.invariant.0, count_turn c.args.nodes.now c.args.count c.loop-k.k c.loop-k-test.true, c.input_at-n.ensures),

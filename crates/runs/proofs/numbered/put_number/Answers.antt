@@ -1,29 +1,16 @@
 use mathlib.Core.Path.{◌≡◌, refl, sym, ap₂, ◌∙◌}
 use mathlib.Core.List.{List, ◌++◌}
-use Prim.Native.Nat.{ℕ, ◌-◌, ◌<◌, zero-le}
+use Prim.Native.Nat.{ℕ, ◌<◌, zero-le}
 use native.Mathlib.Omega.{arith}
 use lib.ListN.{length, set, drop, length-set}
 use lib.Seq.{take_all}
 use Rattle.laws.proofs.Filling.{fill_next}
-use Rattle.cells.proofs.Rule.{entry-bit}
 use Rattle.runs.specs.Runs.{numbered}
 use Rattle.runs.proofs.Numbering.{length-numbered, numbered_at}
 use Rattle.runs.proofs.numbered.put_number.Goals as goal
 
 pub loop-p-init : goal.loop-p-init
 loop-p-init c = (refl, zero-le, refl)
-
-pub table_entry-requires : goal.table_entry-requires
-table_entry-requires c = omega (arith, c.requires.0)
-
-pub overflow_cast-assignment : goal.overflow_cast-assignment
-overflow_cast-assignment c = omega (arith, c.table_entry.ensures, entry-bit c.args.number (c.args.n - c.loop-p.p - 1))
-
-pub bounds-assignment-p : goal.bounds-assignment-p
-bounds-assignment-p c = omega (arith, c.requires.1, c.loop-p.invariant.2)
-
-pub overflow_step-p : goal.overflow_step-p
-overflow_step-p c = omega (arith, c.requires.0)
 
 pub loop-p-preserved : goal.loop-p-preserved
 loop-p-preserved c =
@@ -34,9 +21,6 @@ loop-p-preserved c =
       omega arith,
       length-set c.loop-p.assignment c.loop-p.p c.table_entry.result ∙ c.loop-p.invariant.2,
     )
-
-pub shape_of-assignment : goal.shape_of-assignment
-shape_of-assignment c = c.loop-p.invariant.2
 
 pub returns : goal.returns
 returns c =

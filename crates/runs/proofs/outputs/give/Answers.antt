@@ -1,3 +1,4 @@
+use Rattle.std.proofs.Common.{rules}
 use lib.ListN.{length}
 use Rattle.laws.proofs.Filling.{filled_zeros}
 use Rattle.circuit.specs.Records.{output_wires}
@@ -6,4 +7,4 @@ use Rattle.runs.proofs.outputs.give.Goals as goal
 
 pub returns : goal.returns
 returns c =
-    (filled_zeros _ _ (length c.args.answers.now) c.args.count (outputs_from c.args.values.now (output_wires c.args.outputs.now c.args.count)) c.put_outputs.ensures c.clear_bytes.ensures, c.clear_bytes-2.ensures)
+    (filled_zeros _ _ (length c.args.answers.now) c.args.count (outputs_from c.args.values.now (output_wires c.args.outputs.now c.args.count)) c.put_outputs.ensures (c.fill.ensures.after (search rules)), c.fill-2.ensures.after (search rules))

@@ -16,36 +16,21 @@ use Rattle.runs.proofs.outputs.put_outputs.Goals as goal
 pub loop-j-init : goal.loop-j-init
 loop-j-init c = (refl, zero-le, refl)
 
-pub overflow_mul-j : goal.overflow_mul-j
-overflow_mul-j c = omega (arith, c.requires.0)
-
-pub overflow_add-j : goal.overflow_add-j
-overflow_add-j c = omega (arith, c.requires.0)
-
-pub bounds-outputs-j : goal.bounds-outputs-j
-bounds-outputs-j c = omega (arith, c.requires.0)
-
-pub signal_value-requires : goal.signal_value-requires
-signal_value-requires c =
+pub wire_value-requires : goal.wire_value-requires
+wire_value-requires c =
     let m = length c.args.values.now in
     let l : c.loop-j.j < length (output_wires c.args.outputs.now c.args.count) = omega (arith, length_output_wires c.args.outputs.now c.args.count) in
     ap (not_below m) (sym (out_at c.args.values.now c.args.outputs.now c.args.count c.loop-j.j c.loop-j-test.true)) ∙ none_at (not_below m) (output_wires c.args.outputs.now c.args.count) no_wire c.loop-j.j l c.requires.2
-
-pub bounds-answers-j : goal.bounds-answers-j
-bounds-answers-j c = omega (arith, c.requires.1, c.loop-j.invariant.2)
 
 pub loop-j-preserved : goal.loop-j-preserved
 loop-j-preserved c =
     let full = outputs_from c.args.values.now (output_wires c.args.outputs.now c.args.count) in
     let fits : c.loop-j.j < length full = omega (arith, length-outputs c.args.values.now c.args.outputs.now c.args.count) in
-    let v : c.signal_value.result ≡ get_or full c.loop-j.j 0 = c.signal_value.ensures ∙ sym (output-at c.args.values.now c.args.outputs.now c.args.count c.loop-j.j c.loop-j-test.true) in (
+    let v : c.wire_value.result ≡ get_or full c.loop-j.j 0 = c.wire_value.ensures.0 ∙ sym (output-at c.args.values.now c.args.outputs.now c.args.count c.loop-j.j c.loop-j-test.true) in (
       ap₂ (λ (x : List ℕ) (y : ℕ). set x c.loop-j.j y) c.loop-j.invariant.0 v ∙ fill_next full c.args.answers.now c.loop-j.j fits (omega (arith, c.requires.1)),
       omega arith,
-      length-set c.loop-j.answers c.loop-j.j c.signal_value.result ∙ c.loop-j.invariant.2,
+      length-set c.loop-j.answers c.loop-j.j c.wire_value.result ∙ c.loop-j.invariant.2,
     )
-
-pub shape_of-answers : goal.shape_of-answers
-shape_of-answers c = c.loop-j.invariant.2
 
 pub returns : goal.returns
 returns c =

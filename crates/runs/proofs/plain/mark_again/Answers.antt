@@ -8,9 +8,6 @@ use Rattle.runs.proofs.plain.mark_again.Goals as goal
 pub loop-i-init : goal.loop-i-init
 loop-i-init c = (record { others = others_none c.args.count c.args.order.now c.args.from c.args.values.now; named = λ j a b d. absurd (omega (arith, a, b)) }, omega arith, c.requires.0, refl)
 
-pub mark_node-requires : goal.mark_node-requires
-mark_node-requires c = omega (arith, c.requires.2, c.loop-i.invariant.3)
-
 pub loop-i-preserved : goal.loop-i-preserved
 loop-i-preserved c =
     let g = c.mark_node.ensures in (
@@ -22,9 +19,6 @@ loop-i-preserved c =
       omega (arith, c.loop-i-test.true),
       c.mark_node.auto.values ∙ c.loop-i.invariant.3,
     )
-
-pub shape_of-values : goal.shape_of-values
-shape_of-values c = c.loop-i.invariant.3
 
 pub returns : goal.returns
 returns c =

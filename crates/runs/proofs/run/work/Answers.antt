@@ -8,6 +8,7 @@ use Rattle.circuit.specs.Check.{wires_in}
 use Rattle.circuit.proofs.Checks.{all_below_more}
 use Rattle.runs.proofs.Passing.{told, denied}
 use Rattle.runs.proofs.Running.{run_sound, run_gives, run_prepared, run-listed, run_passing}
+use Rattle.runs.proofs.run.work.Goals.{else-prepared-via-then-prepared+then-lists_cells+else-run_store, else-prepared-via-then-prepared+else-lists_cells, else-prepared-via-else-prepared}
 use Rattle.runs.proofs.run.work.Goals as goal
 
 pub run_store-requires : goal.run_store-requires
@@ -34,11 +35,12 @@ returns-then-run_store c =
       ),
     )
 
-pub returns-else-run_store : goal.returns-else-run_store
-returns-else-run_store c = (λ e. denied c.run_store.result c.run_store.ensures.0 c.if-run_store.false (run_passing c.args.nodes.now c.args.outputs.now c.args.order.now c.args.assignment.now (length c.args.values.now) (length c.args.answers.now) e), λ e. absurd (false≢true e))
-
-pub returns-else-lists_cells : goal.returns-else-lists_cells
-returns-else-lists_cells c = (λ e. denied c.lists_cells.result c.lists_cells.ensures c.if-lists_cells.false (run-listed c.args.nodes.now c.args.outputs.now c.args.order.now c.args.assignment.now (length c.args.values.now) (length c.args.answers.now) e), λ e. absurd (false≢true e))
-
-pub returns-else-prepared : goal.returns-else-prepared
-returns-else-prepared c = (λ e. denied c.prepared.result c.prepared.ensures c.if-prepared.false (run_prepared c.args.nodes.now c.args.outputs.now c.args.order.now c.args.assignment.now (length c.args.values.now) (length c.args.answers.now) e), λ e. absurd (false≢true e))
+pub returns : goal.returns
+returns c = (
+  λ e. elim c.else-prepared.branch [
+    | else-prepared-via-then-prepared+then-lists_cells+else-run_store w ↦ denied w.run_store.result w.run_store.ensures.0 w.if-run_store.false (run_passing c.args.nodes.now c.args.outputs.now c.args.order.now c.args.assignment.now (length c.args.values.now) (length c.args.answers.now) e)
+    | else-prepared-via-then-prepared+else-lists_cells w ↦ denied w.lists_cells.result w.lists_cells.ensures w.if-lists_cells.false (run-listed c.args.nodes.now c.args.outputs.now c.args.order.now c.args.assignment.now (length c.args.values.now) (length c.args.answers.now) e)
+    | else-prepared-via-else-prepared w ↦ denied c.prepared.result c.prepared.ensures w.if-prepared.false (run_prepared c.args.nodes.now c.args.outputs.now c.args.order.now c.args.assignment.now (length c.args.values.now) (length c.args.answers.now) e)
+  ],
+  λ e. absurd (false≢true e),
+)

@@ -1,4 +1,3 @@
-use Prim.Native.Nat.{◌-◌}
 use mathlib.Core.Path.{◌≡◌}
 use Rattle.schedule.specs.Schedule.{key_at}
 use Rattle.schedule.specs.Areas.{key_of, RestIs}
@@ -6,8 +5,4 @@ use Rattle.schedule.proofs.Scan.{Scanning}
 use Rattle.schedule.proofs.picking.pick_ready.Given as goal
 
 abbrev pub invariant-loop-found : goal.invariant-loop-found
-invariant-loop-found l =
-    Scanning l.set l.keys l.nodes l.window l.i l.found l.best.node × (key_of l.best.key ≡ key_at l.keys l.best.node) × RestIs l.set l.i l.rest
-
-abbrev pub decreases-loop-found : goal.decreases-loop-found
-decreases-loop-found l = l.window - l.found
+invariant-loop-found l = Scanning l.set l.keys l.nodes l.window l.i l._found l.best.node × (key_of l.best.key ≡ key_at l.keys l.best.node) × RestIs l.set l.i l.rest

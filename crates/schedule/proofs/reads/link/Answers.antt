@@ -1,8 +1,11 @@
-use Rattle.schedule.proofs.Chains.{head_none, next-none, head_some, next-some}
+use mathlib.Core.Path.{refl}
+use Rattle.schedule.specs.Areas.{head_set, next_set}
 use Rattle.schedule.proofs.reads.link.Goals as goal
 
-pub returns-then-from-eq0 : goal.returns-then-from-eq0
-returns-then-from-eq0 c = (head_none _ _ _ c.if-from-eq0.true, next-none _ _ _ _ c.if-from-eq0.true)
+pub returns-in_default : goal.returns-in_default
+unfolding head_set next_set
+returns-in_default c = rw c.in_default.is (refl, refl)
 
 pub returns : goal.returns
-returns c = (head_some _ _ _ c.if-from-eq0.false, next-some _ _ _ _ c.if-from-eq0.false)
+unfolding head_set next_set
+returns c = rw c.in-Some.is (refl, refl)

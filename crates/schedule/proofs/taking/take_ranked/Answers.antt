@@ -43,17 +43,17 @@ bounds-order-taken c = omega (arith, resumed_room _ _ _ _ _ _ _ (resumed _ _ _ _
 pub overflow_add-taken : goal.overflow_add-taken
 overflow_add-taken c = omega (arith, resumed_room _ _ _ _ _ _ _ (resumed _ _ _ _ _ _ _ _ _ _ c.loop-at.invariant.0 c.requires.0) c.loop-at.invariant.1 _ (window_picked c.args.count c.args.keys.now c.loop-at.area c.loop-at.at c.loop-at.invariant.6 c.args.window c.loop-at.invariant.7 c.requires.3 c.loop-at-test.true).1)
 
-pub release_ranked-left-requires : goal.release_ranked-left-requires
-release_ranked-left-requires c = rw c.loop-at.invariant.8 (resumed_releasable _ _ _ _ _ _ _ (resumed _ _ _ _ _ _ _ _ _ _ c.loop-at.invariant.0 c.requires.0) c.loop-at.invariant.1 _ (window_picked c.args.count c.args.keys.now c.loop-at.area c.loop-at.at c.loop-at.invariant.6 c.args.window c.loop-at.invariant.7 c.requires.3 c.loop-at-test.true).1, c.loop-at.invariant.6, window_below c.args.count c.args.keys.now c.loop-at.area c.loop-at.at c.loop-at.invariant.6 c.args.window c.loop-at.invariant.7 c.requires.3 c.loop-at-test.true, c.requires.1)
+pub release-left-requires : goal.release-left-requires
+release-left-requires c = rw c.loop-at.invariant.8 (resumed_releasable _ _ _ _ _ _ _ (resumed _ _ _ _ _ _ _ _ _ _ c.loop-at.invariant.0 c.requires.0) c.loop-at.invariant.1 _ (window_picked c.args.count c.args.keys.now c.loop-at.area c.loop-at.at c.loop-at.invariant.6 c.args.window c.loop-at.invariant.7 c.requires.3 c.loop-at-test.true).1, c.loop-at.invariant.6, window_below c.args.count c.args.keys.now c.loop-at.area c.loop-at.at c.loop-at.invariant.6 c.args.window c.loop-at.invariant.7 c.requires.3 c.loop-at-test.true, c.requires.1)
 
 pub settle-at-requires : goal.settle-at-requires
-settle-at-requires c = (c.release_ranked-left.ensures.1, c.requires.1)
+settle-at-requires c = (c.release-left.ensures.1, c.requires.1)
 
 pub loop-at-smaller : goal.loop-at-smaller
 loop-at-smaller c = omega (arith, resumed_room _ _ _ _ _ _ _ (resumed _ _ _ _ _ _ _ _ _ _ c.loop-at.invariant.0 c.requires.0) c.loop-at.invariant.1 _ (window_picked c.args.count c.args.keys.now c.loop-at.area c.loop-at.at c.loop-at.invariant.6 c.args.window c.loop-at.invariant.7 c.requires.3 c.loop-at-test.true).1)
 
 pub loop-at-preserved : goal.loop-at-preserved
-loop-at-preserved c = let p = (window_picked c.args.count c.args.keys.now c.loop-at.area c.loop-at.at c.loop-at.invariant.6 c.args.window c.loop-at.invariant.7 c.requires.3 c.loop-at-test.true) in let r = resumed_room _ _ _ _ _ _ _ (resumed _ _ _ _ _ _ _ _ _ _ c.loop-at.invariant.0 c.requires.0) c.loop-at.invariant.1 _ p.1 in (onward_fronted _ _ _ _ _ _ _ _ _ _ _ c.settle-at.ensures.3 (onward_more _ _ _ _ _ _ _ _ _ _ c.loop-at.invariant.0 c.loop-at.invariant.1 _ (rw (← c.loop-at.invariant.8) at p.1) (omega (arith, r, c.requires.2, c.loop-at.invariant.2)) _ c.release_ranked-left.ensures.0), simp length-set (omega (arith, r, c.requires.2, c.loop-at.invariant.2)), simp length-set c.loop-at.invariant.2, c.settle-at.auto.area ∙ c.release_ranked-left.auto.area ∙ c.loop-at.invariant.3, omega (arith, c.loop-at.invariant.4), drop_more c.loop-at.order c.args.order.now c.loop-at.taken _ c.loop-at.invariant.5, c.settle-at.ensures.0, c.settle-at.ensures.1, c.loop-at.invariant.8)
+loop-at-preserved c = let p = (window_picked c.args.count c.args.keys.now c.loop-at.area c.loop-at.at c.loop-at.invariant.6 c.args.window c.loop-at.invariant.7 c.requires.3 c.loop-at-test.true) in let r = resumed_room _ _ _ _ _ _ _ (resumed _ _ _ _ _ _ _ _ _ _ c.loop-at.invariant.0 c.requires.0) c.loop-at.invariant.1 _ p.1 in (onward_fronted _ _ _ _ _ _ _ _ _ _ _ c.settle-at.ensures.3 (onward_more _ _ _ _ _ _ _ _ _ _ c.loop-at.invariant.0 c.loop-at.invariant.1 _ (rw (← c.loop-at.invariant.8) at p.1) (omega (arith, r, c.requires.2, c.loop-at.invariant.2)) _ c.release-left.ensures.0), simp length-set (omega (arith, r, c.requires.2, c.loop-at.invariant.2)), simp length-set c.loop-at.invariant.2, c.settle-at.auto.area ∙ c.release-left.auto.area ∙ c.loop-at.invariant.3, omega (arith, c.loop-at.invariant.4), drop_more c.loop-at.order c.args.order.now c.loop-at.taken _ c.loop-at.invariant.5, c.settle-at.ensures.0, c.settle-at.ensures.1, c.loop-at.invariant.8)
 
 pub shape_of-area : goal.shape_of-area
 shape_of-area c = c.loop-at.invariant.3

@@ -39,12 +39,3 @@ shape_of-order-after-loop-cells c = c.loop-cells.invariant.2
 
 pub returns-after-loop-cells : goal.returns-after-loop-cells
 returns-after-loop-cells c = (c.loop-cells.invariant.0, c.loop-cells.invariant.1, c.loop-cells.invariant.4, c.loop-cells.invariant.5, λ z. absurd (z c.loop-cells-test.false))
-
-pub shape_of-area-then-budget-cost : goal.shape_of-area-then-budget-cost
-shape_of-area-then-budget-cost c = c.loop-cells.invariant.3
-
-pub shape_of-order-then-budget-cost : goal.shape_of-order-then-budget-cost
-shape_of-order-then-budget-cost c = c.loop-cells.invariant.2
-
-pub returns-then-budget-cost : goal.returns-then-budget-cost
-returns-then-budget-cost c = (c.loop-cells.invariant.0, c.loop-cells.invariant.1, c.loop-cells.invariant.4, c.loop-cells.invariant.5, λ _. c.scanned-cost.ensures (λ z. omega (arith, c.if-budget-cost.true)))

@@ -1,43 +1,23 @@
-use mathlib.Core.Path.{sym, ◌∙◌}
-use native.Mathlib.Omega.{arith}
-use Rattle.laws.proofs.Stretches.{word_other, word-start, word-step, word-not, word_end}
-use Rattle.text.specs.Bytes.{upper}
+use mathlib.Core.Path.{◌≡◌, ap, ◌∙◌}
+use mathlib.Core.List.{List}
+use Prim.Native.Nat.{ℕ}
+use lib.Dec.{eqb}
+use borrow.Author.Tests.{ne_eqb}
+use Rattle.std.proofs.Common.{rules, tests}
+use Rattle.std.proofs.lemmas.Iterator.{YieldsList-from_slice, YieldsList-from_zip}
+use Rattle.std.proofs.lemmas.Iterator.Search.{all_from_yields_List}
+use Rattle.std.specs.List.{list_all, zip}
+use Rattle.std.specs.Char.{to_ascii_uppercase}
+use Rattle.text.specs.Bytes.{upper, is_named}
+use Rattle.text.proofs.ByteLaws.{same_zipped, same_uppercase, other_lengths}
 use Rattle.text.proofs.bytes.is_named.Goals as goal
 
-pub returns-then-len-name : goal.returns-then-len-name
-returns-then-len-name c =
-    word_other upper c.args.text.now c.args.start c.args.len c.args.name.now (omega arith) c.if-len-name.true
+pub returns-then-bytes-letters : goal.returns-then-bytes-letters
+returns-then-bytes-letters c =
+    let bytes : List ℕ = c.bytes-bytes.result.now in
+    let each : c.all.result ≡ list_all (λ (p : ℕ × ℕ). eqb (to_ascii_uppercase p.0) p.1) (zip bytes c.args.letters.now) =
+    all_from_yields_List (λ (p : ℕ × ℕ). eqb (to_ascii_uppercase p.0) p.1) c.all.new.self _ c.all.result c.all.ensures.ran (YieldsList-from_zip {s = c.zip.result} (YieldsList-from_slice bytes cc) (YieldsList-from_slice c.args.letters.now cc)) (λ x b q k. search (rules, tests)) in
+    each ∙ same_zipped to_ascii_uppercase bytes c.args.letters.now c.if-bytes-letters.true ∙ same_uppercase bytes c.args.letters.now ∙ ap (λ (l : List ℕ). is_named l c.args.letters.now) c.bytes-bytes.ensures
 
-pub loop-i-init : goal.loop-i-init
-loop-i-init c =
-    (omega arith, c.if-len-name.false, word-start upper c.args.text.now c.args.start c.args.len c.args.name.now)
-
-pub overflow_add-start : goal.overflow_add-start
-overflow_add-start c = omega arith
-
-pub bounds-text-start : goal.bounds-text-start
-bounds-text-start c = omega arith
-
-pub to_ascii_uppercase-requires : goal.to_ascii_uppercase-requires
-to_ascii_uppercase-requires c = tt
-
-pub bounds-name-i : goal.bounds-name-i
-bounds-name-i c = omega arith
-
-pub returns-then-to_ascii_uppercase-name : goal.returns-then-to_ascii_uppercase-name
-returns-then-to_ascii_uppercase-name c =
-    word-not upper c.args.text.now c.args.start c.args.len c.args.name.now c.loop-i.i c.loop-i.invariant.1 (omega arith) (omega arith) (λ e. c.if-to_ascii_uppercase-name.true (c.to_ascii_uppercase.ensures ∙ e)) ∙ c.loop-i.invariant.2
-
-pub overflow_add-i : goal.overflow_add-i
-overflow_add-i c = omega arith
-
-pub loop-i-smaller : goal.loop-i-smaller
-loop-i-smaller c = omega arith
-
-pub loop-i-preserved : goal.loop-i-preserved
-loop-i-preserved c =
-    (omega arith, c.loop-i.invariant.1, word-step upper c.args.text.now c.args.start c.args.len c.args.name.now c.loop-i.i c.loop-i.invariant.1 (omega arith) (omega arith) (sym c.to_ascii_uppercase.ensures ∙ c.if-to_ascii_uppercase-name.false) ∙ c.loop-i.invariant.2)
-
-pub returns : goal.returns
-returns c =
-    word_end upper c.args.text.now c.args.start c.args.len c.args.name.now c.loop-i.i c.loop-i.invariant.1 c.loop-i-test.false ∙ c.loop-i.invariant.2
+pub returns-else-bytes-letters : goal.returns-else-bytes-letters
+returns-else-bytes-letters c = ne_eqb _ _ c.if-bytes-letters.false ∙ other_lengths upper c.bytes-bytes.result.now c.args.letters.now c.if-bytes-letters.false ∙ ap (λ (l : List ℕ). is_named l c.args.letters.now) c.bytes-bytes.ensures

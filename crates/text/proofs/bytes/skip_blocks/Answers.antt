@@ -6,20 +6,8 @@ use Rattle.text.proofs.bytes.skip_blocks.Goals as goal
 pub loop-i-init : goal.loop-i-init
 loop-i-init c = (omega arith, refl)
 
-pub overflow_sub-end : goal.overflow_sub-end
-overflow_sub-end c = omega arith
-
-pub block_has-requires : goal.block_has-requires
-block_has-requires c = omega arith
-
 pub returns-then-block_has : goal.returns-then-block_has
 returns-then-block_has c = (c.loop-i.invariant.1, c.loop-i.invariant.0)
-
-pub overflow_add-i : goal.overflow_add-i
-overflow_add-i c = omega arith
-
-pub loop-i-smaller : goal.loop-i-smaller
-loop-i-smaller c = omega arith
 
 pub loop-i-preserved : goal.loop-i-preserved
 loop-i-preserved c = (omega arith, block_passed c.args.text.now c.args.x c.loop-i.i c.args.end (omega arith) c.requires.1 (sym c.block_has.ensures ∙ c.if-block_has.false) ∙ c.loop-i.invariant.1)

@@ -12,8 +12,8 @@ abbrev pub invariant-loop-at : goal.invariant-loop-at
 invariant-loop-at l =
     (l.at ≤ length l.text + 1)
     × (length l.joined ≡ length l.initial.joined)
-    × (l.out ≤ length l.joined)
-    × (take l.out l.joined ++ left l.gathered l.text l.at ≡ written false (raw_lines l.text))
+    × (l.put.out ≤ length l.joined)
+    × (take l.put.out l.joined ++ left l.put.gathered l.text l.at ≡ written false (raw_lines l.text))
     × EarlierComment l.text l.at l.comment
 
 abbrev pub decreases-loop-at : goal.decreases-loop-at

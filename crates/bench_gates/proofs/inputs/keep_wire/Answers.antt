@@ -1,8 +1,0 @@
-use borrow.Author.Tests.{eq-eqb, ne_eqb}
-use Rattle.bench_gates.proofs.inputs.keep_wire.Goals as goal
-
-pub returns-then-n-k : goal.returns-then-n-k
-returns-then-n-k c = rw (eq-eqb _ _ c.if-n-k.true)
-
-pub returns : goal.returns
-returns c = rw (ne_eqb _ _ c.if-n-k.false)

@@ -1,9 +1,0 @@
-use Rattle.laws.specs.Stretches.{stretch}
-use Rattle.names.proofs.ChainLaws.{ahead, Walked}
-use Rattle.names.proofs.end_of.Given as goal
-
-abbrev pub invariant-loop-at : goal.invariant-loop-at
-invariant-loop-at l = Walked l.text l.names l.count (stretch l.text l.start l.len) l.at l.rest l.last l.digit
-
-abbrev pub decreases-loop-at : goal.decreases-loop-at
-decreases-loop-at l = ahead l.count l.at

@@ -1,8 +1,0 @@
-use mathlib.Core.Path.{sym, ◌∙◌}
-use Rattle.runs.proofs.evaluate.evaluate_refusal.Goals as goal
-
-pub returns-in-Refused : goal.returns-in-Refused
-returns-in-Refused c = sym c.evaluate_fault-fault.ensures ∙ c.in-Refused.is
-
-pub returns-in-Sound : goal.returns-in-Sound
-returns-in-Sound c = absurd (c.requires (sym c.evaluate_fault-fault.ensures ∙ c.in-Sound.is))
