@@ -1,5 +1,6 @@
 // A line with `=`: a gate.
 ghost use Rattle.std.specs.Prelude.{◌≡◌, ℕ, ◌+◌, ◌≤◌, ◌<◌, length, IfOk, OnErr};
+ghost use Rattle.circuit.specs.Refusals.{and_then};
 ghost use Rattle.text.specs.Blanks.{trimmed};
 ghost use Rattle.names.specs.Chains.{entries};
 ghost use Rattle.reading.specs.Reading.{places_in};
@@ -20,11 +21,16 @@ use reading::records::{Counts, find_wire};
 use text::words::{Word, trim};
 
 // A gate with a new output and its invocation: 5.
-pub fn plan_inputs(table: &NameTable, out: Word, invocation: Invocation) -> Result<Plan, Refusal>
+pub fn plan_inputs(
+    table: &NameTable,
+    out: Word,
+    invocation: Result<Invocation, Refusal>,
+) -> Result<Plan, Refusal>
     requires len_in_bounds { out.start + out.len ≤ length table.now.text.now }
-    requires invocation_is { NotedIn table.now.text.now invocation }
-    ensures { PlanIs table.now.text.now (entries table.now.names.now table.now.count) out result (gate_invoked table.now.text.now (entries table.now.names.now table.now.count) (invoked table.now.text.now invocation)) }
+    requires invocation_is { IfOk invocation (NotedIn table.now.text.now) }
+    ensures { PlanIs table.now.text.now (entries table.now.names.now table.now.count) out result (and_then (outcome (invoked table.now.text.now) invocation) (gate_invoked table.now.text.now (entries table.now.names.now table.now.count))) }
 {
+    let invocation = invocation?;
     let wires = input_wires(table, invocation.from, invocation.end)?;
     Ok(Plan {
         out,
@@ -48,7 +54,7 @@ pub fn plan_gate(table: &NameTable, at: usize, cut: usize, end: usize) -> Result
     if find_wire(table, out, true).is_some() {
         return Err(Refusal::DefinedBefore);
     }
-    let invocation = parse_bench_invocation(table.text, cut + 1, end)?;
+    let invocation = parse_bench_invocation(table.text, cut + 1, end);
     plan_inputs(table, out, invocation)
 }
 

@@ -24,7 +24,7 @@ pub fn row_step(
 ) -> Result<NodeNumber, Refusal>
     ensures { (ns : List BoolNode) → length ns ≡ next.0 → HoldsNodes nodes.old ns → StepIs nodes.new wires.new (row_step (capacity 9 (length nodes.old)) line.now (record { nodes = ns; wires = wires.old })) result }
 {
-    let row = read_row(line, wires)?;
+    let row = read_row(line, wires);
     store_row(nodes, wires, next, row)
 }
 

@@ -66,12 +66,12 @@ pub fn store_row(
     nodes: &mut [usize],
     wires: &mut [usize],
     next: NodeNumber,
-    row: Row,
+    row: Result<Row, Refusal>,
 ) -> Result<NodeNumber, Refusal>
-    requires { RowFits (length wires.old) (Ok row) }
-    ensures { (ns : List BoolNode) → length ns ≡ next.0 → HoldsNodes nodes.old ns → StepIs nodes.new wires.new (store_of (capacity 9 (length nodes.old)) (gate_of (Ok row)) (record { nodes = ns; wires = wires.old })) result }
+    requires { RowFits (length wires.old) row }
+    ensures { (ns : List BoolNode) → length ns ≡ next.0 → HoldsNodes nodes.old ns → StepIs nodes.new wires.new (store_of (capacity 9 (length nodes.old)) (gate_of row) (record { nodes = ns; wires = wires.old })) result }
 {
-    match row {
+    match row? {
         Row::Alias { out, wire } => store_alias(wires, next, out, wire),
         Row::Cell { out, node } => store_cell(nodes, wires, next, out, node),
     }

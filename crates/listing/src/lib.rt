@@ -1,4 +1,4 @@
-// The listing of a circuit, line by line, into a lent area.
+// The listing of a circuit, line by line, into a vector of fixed capacity.
 
 #![tactic(auto)]
 

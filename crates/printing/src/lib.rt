@@ -53,20 +53,20 @@ pub fn print_refused<W: Write>(out: &mut W, e: Refusal) -> io::Result<()>
 }
 
 // Writes every line of the listing.
-pub fn print_lines<W: Write>(
+pub fn print_lines<const N: usize, W: Write>(
     out: &mut W,
     text: &[u8],
     nodes: &[usize],
     outputs: &[usize],
     order: &[usize],
+    line: &mut ArrayVec<u8, N>,
 ) -> io::Result<()>
-    requires { Room (length text.now) (length order.now) 33024 }
+    requires { Room (length text.now) (length order.now) N }
     ensures { OnOk result (Appends (W.contents out.old) (W.contents out.new) (printed_lines text.now nodes.now outputs.now order.now)) }
 {
-    let mut line: ArrayVec<u8, 33024> = ArrayVec::new();
     let lines = nodes.len() / 9 + outputs.len() / 5 + 2;
     for k in 0..lines {
-        listing_line(&mut line, text, nodes, outputs, order, k);
+        listing_line(line, text, nodes, outputs, order, k);
         out.write_all(line.as_slice())?;
     }
     Ok(())
@@ -94,7 +94,10 @@ pub fn print_circuit<W: Write>(
         &mut successors,
         &mut order,
     ) {
-        Ok(n) => print_lines(out, text, nodes, outputs, &order[..n]),
+        Ok(n) => {
+            let mut line: ArrayVec<u8, 33024> = ArrayVec::new();
+            print_lines(out, text, nodes, outputs, &order[..n], &mut line)
+        }
         Err(e) => print_refused(out, e),
     }
 }

@@ -3,8 +3,6 @@
 ghost use Rattle.std.specs.Prelude.{◌≡◌, true, false, ℕ, ◌+◌, ◌-◌, ◌*◌, ◌^◌, ◌<◌, ◌≤◌, ltb, length, get_or};
 ghost use Rattle.circuit.specs.Records.{node_at};
 
-use crate::step::Walk;
-
 // How many wires a cell has is likely guessed right by a processor: few cells it learns in earlier calls, and of many, 32 that stand evenly apart have not one wire.
 pub fn counts_guessed(nodes: &[usize], count: usize) -> bool
     requires { count * 9 ≤ length nodes.now }
@@ -99,23 +97,28 @@ pub fn in_sequence(order: &[usize], from: usize, end: usize) -> bool
     first <= last && last - first == end - 1 - from
 }
 
-impl<'a> Walk<'a> {
-    // The number of nodes looked at once those that a stretch reaches are; all where one of them has words of no circuit, so that no more is looked at.
-    pub fn look_ahead(&self, from: usize, end: usize, lead: usize) -> usize
-        requires { (self.now.count * 9 ≤ length self.now.nodes.now) × (from < end) × (end ≤ length self.now.order.now) × (lead ≤ self.now.count) }
-        ensures { result ≤ self.now.count }
-    {
-        if lead == self.count {
-            return self.count;
-        }
-        if in_sequence(self.order, from, end) {
-            return further(lead, self.order[end - 1], self.count);
-        }
-        let top = front(self.order, from, end, self.count, lead);
-        if words_small(self.nodes, lead, top) {
-            top
-        } else {
-            self.count
-        }
+// The number of nodes looked at once those that a stretch reaches are; all where one of them has words of no circuit, so that no more is looked at.
+pub fn look_ahead(
+    nodes: &[usize],
+    count: usize,
+    order: &[usize],
+    from: usize,
+    end: usize,
+    lead: usize,
+) -> usize
+    requires { (count * 9 ≤ length nodes.now) × (from < end) × (end ≤ length order.now) × (lead ≤ count) }
+    ensures { result ≤ count }
+{
+    if lead == count {
+        return count;
+    }
+    if in_sequence(order, from, end) {
+        return further(lead, order[end - 1], count);
+    }
+    let top = front(order, from, end, count, lead);
+    if words_small(nodes, lead, top) {
+        top
+    } else {
+        count
     }
 }

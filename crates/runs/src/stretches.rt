@@ -4,7 +4,7 @@ ghost use Rattle.runs.specs.declared.stretches.Passage.TheVariants.{Stopped};
 ghost use Rattle.runs.specs.Work.{Tells, mark_count};
 ghost use Rattle.runs.specs.Steps.{Steppable, Through, Walked, Went};
 
-use crate::ahead::{first_lead, stretch_end};
+use crate::ahead::{first_lead, look_ahead, stretch_end};
 use crate::step::Walk;
 
 // No cell waits.
@@ -29,7 +29,6 @@ pub enum Passage {
 
 impl<'a> Walk<'a> {
     // The steps of a stretch, those of cells with two wires of nodes first where these are asked for.
-    // The walk is copied, so that a compiler keeps its parts in registers: behind the reference, a value stored might change them.
     pub fn run_stretch(&self, plain: bool, from: usize, end: usize, values: &mut [u8]) -> Passage
         requires { Steppable self.now.nodes.now self.now.count values.old × (from ≤ end) × (end ≤ length self.now.order.now) }
         ensures { ((result ≡ Stopped → ⊥) → (start : ℕ) (old : List ℕ) → start ≤ from → Walked self.now.nodes.now self.now.count self.now.order.now start from old values.old → Walked self.now.nodes.now self.now.count self.now.order.now start end old values.new) × (result ≡ Stopped → (start : ℕ) (old : List ℕ) → start ≤ from → Walked self.now.nodes.now self.now.count self.now.order.now start from old values.old → Through self.now.nodes.now self.now.count self.now.order.now start end old false values.new) }
@@ -60,7 +59,7 @@ impl<'a> Walk<'a> {
         // Each stretch says where the next begins.
         while from < entries {
             let end = stretch_end(from, entries, self.count);
-            lead = self.look_ahead(from, end, lead);
+            lead = look_ahead(self.nodes, self.count, self.order, from, end, lead);
             how = self.run_stretch(how == Passage::Plain, from, end, values);
             if how == Passage::Stopped {
                 return false;

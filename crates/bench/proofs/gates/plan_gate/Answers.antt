@@ -1,6 +1,6 @@
-use Rattle.std.specs.Prelude.{◌+◌, Err, Ok}
+use Rattle.std.specs.Prelude.{◌+◌}
+use Rattle.reading.specs.Holding.{outcome}
 use mathlib.Core.Path.{sym, ◌∙◌}
-use Rattle.std.proofs.lemmas.Result.{err_from_is_err_and}
 use Rattle.names.specs.Chains.{entries}
 use Rattle.bench_invocations.specs.Invocations.{between}
 use Rattle.bench_invocations.specs.Walks.{invoked}
@@ -13,12 +13,7 @@ returns-then-out-eq0 c = rw c.trim-out.ensures.0 at (plan_refused c.args.table.n
 pub returns-then-is_some : goal.returns-then-is_some
 returns-then-is_some c = rw c.trim-out.ensures.0 at (plan_refused c.args.table.now.text.now (entries c.args.table.now.names.now c.args.table.now.count) c.trim-out.result _ _ (known_output c.args.table.now.text.now c.trim-out.result (between (c.args.cut + 1) c.args.end) (entries c.args.table.now.names.now c.args.table.now.count) c.if-out-eq0.false c.find_wire.result c.find_wire.ensures (sym c.is_some.ensures ∙ c.if-is_some.true)))
 
-pub returns-in_err-invocation : goal.returns-in_err-invocation
-returns-in_err-invocation c =
-    let p = err_from_is_err_and c.from_residual.result c.from_residual.ensures.1 in
-    rw (p.1, p.2) (rw c.trim-out.ensures.0 at (plan_refused c.args.table.now.text.now (entries c.args.table.now.names.now c.args.table.now.count) c.trim-out.result _ _ (new_output c.args.table.now.text.now c.trim-out.result (between (c.args.cut + 1) c.args.end) (entries c.args.table.now.names.now c.args.table.now.count) c.if-out-eq0.false c.find_wire.result c.find_wire.ensures (sym c.is_some.ensures ∙ c.if-is_some.false) (Err c.in_err-invocation.field-0.0) c.in_err-invocation.ensures.is)))
-
 pub returns : goal.returns
 returns c =
-    let e = new_output c.args.table.now.text.now c.trim-out.result (between (c.args.cut + 1) c.args.end) (entries c.args.table.now.names.now c.args.table.now.count) c.if-out-eq0.false c.find_wire.result c.find_wire.ensures (sym c.is_some.ensures ∙ c.if-is_some.false) (Ok (invoked c.args.table.now.text.now c.in_ok-invocation.invocation)) c.in_ok-invocation.ensures.is in
+    let e = new_output c.args.table.now.text.now c.trim-out.result (between (c.args.cut + 1) c.args.end) (entries c.args.table.now.names.now c.args.table.now.count) c.if-out-eq0.false c.find_wire.result c.find_wire.ensures (sym c.is_some.ensures ∙ c.if-is_some.false) (outcome (invoked c.args.table.now.text.now) c.parse_bench_invocation-invocation.result) c.parse_bench_invocation-invocation.ensures.is in
     rw c.trim-out.ensures.0 at (rw e at c.plan_inputs.ensures)

@@ -1,4 +1,4 @@
-use Rattle.std.proofs.Common.{sym, length, arith}
+use Rattle.std.proofs.Common.{length, arith}
 use Rattle.bristol.specs.Bristol.{bristol_circuit, bristol}
 use Rattle.printing.proofs.Bounds.{inside}
 use Rattle.printing.proofs.Printing.{bristol_printed}
