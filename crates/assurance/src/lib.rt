@@ -2,16 +2,16 @@
 
 #![tactic(auto)]
 
-ghost use Rattle.std.specs.Prelude.{◌≡◌, ◌*◌, ◌≤◌, ◌<◌, length, take, replicate};
+ghost use Rattle.std.specs.Prelude.{◌≡◌, ◌*◌, ◌≤◌, ◌<◌, length, take, replicate, IfOk, IfErr};
 ghost use Rattle.circuit.specs.declared.refusals.Refusal.TheVariants.{UnfitOrder};
 ghost use Rattle.assurance.specs.Carried.{RanThenEvaluated, Cleared, Carries};
 ghost use Rattle.assurance.specs.Refused.{RefusedRun, RefusedBoth, RefusesUnordered, RefusesRead};
 
+use circuit::areas::clear_all;
 use circuit::records::Sizes;
 use circuit::refusals::Refusal;
 use runs::evaluate::evaluate;
 use runs::run::run;
-use schedule::ordering::clear_all;
 use schedule::scheduled_gates_by_key;
 
 // The answers of the run and of `evaluate`.
@@ -19,6 +19,15 @@ use schedule::scheduled_gates_by_key;
 pub struct Both {
     pub ran: Result<usize, Refusal>,
     pub evaluated: Result<usize, Refusal>,
+}
+
+// What is asked of a circuit: an order for a window and keys, and a run for an assignment.
+// The areas lent for writing stay parameters one by one: in a struct each owes a clause on its reference in each function, and without these the proof of a function that passes the struct on did not close.
+#[derive(Clone, Copy)]
+pub struct Asked<'a> {
+    pub window: usize,
+    pub keys: &'a [u32],
+    pub assignment: &'a [u8],
 }
 
 // The run along the first entries of an order, then `evaluate`.
@@ -96,20 +105,23 @@ pub fn refuse_both(
 pub fn order_and_run(
     nodes: &[usize],
     outputs: &[usize],
-    window: usize,
-    keys: &[u32],
+    asked: Asked,
     ready: &mut [usize],
     successors: &mut [usize],
     order: &mut [usize],
-    assignment: &[u8],
     values: &mut [u8],
     answers: &mut [u8],
     evaluated: &mut [u8],
 ) -> Both
-    ensures carries { Carries nodes.now outputs.now window keys.now assignment.now values.old (length ready.old) (length successors.old) (length order.old) (length answers.old) (length evaluated.old) result order.new values.new answers.new evaluated.new }
-    ensures refuses_unordered { RefusesUnordered nodes.now outputs.now window keys.now (length ready.old) (length successors.old) (length order.old) (length values.old) (length answers.old) (length evaluated.old) result ready.new successors.new order.new values.new answers.new evaluated.new }
+    ensures carries { Carries nodes.now outputs.now asked.entry.window asked.entry.keys.now asked.entry.assignment.now values.old (length ready.old) (length successors.old) (length order.old) (length answers.old) (length evaluated.old) result order.new values.new answers.new evaluated.new }
+    ensures refuses_unordered { RefusesUnordered nodes.now outputs.now asked.entry.window asked.entry.keys.now (length ready.old) (length successors.old) (length order.old) (length values.old) (length answers.old) (length evaluated.old) result ready.new successors.new order.new values.new answers.new evaluated.new }
     ensures cleared { Cleared (length ready.old) (length successors.old) (length values.old) ready.new successors.new values.new }
 {
+    let Asked {
+        window,
+        keys,
+        assignment,
+    } = asked;
     match scheduled_gates_by_key(nodes, outputs, window, keys, ready, successors, order) {
         Ok(cells) => run_ordered(
             nodes, outputs, order, cells, assignment, values, answers, evaluated,
@@ -118,25 +130,28 @@ pub fn order_and_run(
     }
 }
 
-// The first records of two areas: the schedule, the run and `evaluate` on them.
+// The schedule, the run and `evaluate` on what a reader gave, the first records of two areas; its refusal, where it refused.
 pub fn run_read(
     nodes: &[usize],
     outputs: &[usize],
-    sizes: Sizes,
-    window: usize,
-    keys: &[u32],
+    read: Result<Sizes, Refusal>,
+    asked: Asked,
     ready: &mut [usize],
     successors: &mut [usize],
     order: &mut [usize],
-    assignment: &[u8],
     values: &mut [u8],
     answers: &mut [u8],
     evaluated: &mut [u8],
 ) -> Both
-    ensures carries { sizes.nodes * 9 ≤ length nodes.now → sizes.outputs * 5 ≤ length outputs.now → Carries (take (sizes.nodes * 9) nodes.now) (take (sizes.outputs * 5) outputs.now) window keys.now assignment.now values.old (length ready.old) (length successors.old) (length order.old) (length answers.old) (length evaluated.old) result order.new values.new answers.new evaluated.new }
-    ensures refuses_read { RefusesRead nodes.now sizes.nodes outputs.now sizes.outputs window keys.now (length ready.old) (length successors.old) (length order.old) (length values.old) (length answers.old) (length evaluated.old) result ready.new successors.new order.new values.new answers.new evaluated.new }
+    ensures carries { IfOk read (λ sizes. sizes.nodes * 9 ≤ length nodes.now → sizes.outputs * 5 ≤ length outputs.now → Carries (take (sizes.nodes * 9) nodes.now) (take (sizes.outputs * 5) outputs.now) asked.entry.window asked.entry.keys.now asked.entry.assignment.now values.old (length ready.old) (length successors.old) (length order.old) (length answers.old) (length evaluated.old) result order.new values.new answers.new evaluated.new) }
+    ensures refuses_unread { IfErr read (λ e. RefusedBoth e (length ready.old) (length successors.old) (length order.old) (length values.old) (length answers.old) (length evaluated.old) result ready.new successors.new order.new values.new answers.new evaluated.new) }
+    ensures refuses_read { IfOk read (λ sizes. RefusesRead nodes.now sizes.nodes outputs.now sizes.outputs asked.entry.window asked.entry.keys.now (length ready.old) (length successors.old) (length order.old) (length values.old) (length answers.old) (length evaluated.old) result ready.new successors.new order.new values.new answers.new evaluated.new) }
     ensures cleared { Cleared (length ready.old) (length successors.old) (length values.old) ready.new successors.new values.new }
 {
+    let sizes = match read {
+        Ok(sizes) => sizes,
+        Err(e) => return refuse_both(e, ready, successors, order, values, answers, evaluated),
+    };
     if nodes.len() / 9 < sizes.nodes || outputs.len() / 5 < sizes.outputs {
         return refuse_both(
             Refusal::Broken,
@@ -151,12 +166,10 @@ pub fn run_read(
     order_and_run(
         &nodes[..sizes.nodes * 9],
         &outputs[..sizes.outputs * 5],
-        window,
-        keys,
+        asked,
         ready,
         successors,
         order,
-        assignment,
         values,
         answers,
         evaluated,

@@ -1,7 +1,7 @@
 -- A reader's answer and areas, then the composed call: demand 3 for what the reader's definition gives.
 -- Assumes nothing.
 use Rattle.circuit.specs.declared.records.Sizes.{Sizes}
-use Rattle.std.specs.Prelude.{Err, Ok}
+use Rattle.std.specs.Prelude.{Err, Ok, IfOk, IfErr}
 use Prim.Native.Nat.{ℕ, ◌-◌, ◌*◌, ◌≤◌}
 use mathlib.Core.Path.{◌≡◌, refl, sym, ap, ap₂, ◌∙◌, subst}
 use mathlib.Core.List.{List}
@@ -82,7 +82,7 @@ module _ (read : Try Circuit) (n o : ℕ) (r : Try Sizes) (N O : List ℕ) (answ
 
   module _ (window : ℕ) (keys assignment old : List ℕ) (ready successors order answers evaluated : ℕ) (b : Both) (ready' successors' order' values' answers' evaluated' : List ℕ) where
     -- the composed call, of a text that the reader refuses
-    pub refuses : (e : Refusal) → r ≡ Err e
+    refuses : (e : Refusal) → r ≡ Err e
         → RefusedBoth e ready successors order (length old) answers evaluated b ready' successors' order' values' answers' evaluated'
         → Assures read window keys assignment old ready successors order answers evaluated b order' values' answers' evaluated'
         × Refuses read window keys ready successors order (length old) answers evaluated b ready' successors' order' values' answers' evaluated'
@@ -98,7 +98,7 @@ module _ (read : Try Circuit) (n o : ℕ) (r : Try Sizes) (N O : List ℕ) (answ
     )
 
     -- and of one that it accepts
-    pub assures : ((c : Circuit) → read ≡ Ok c → check_circuit c.nodes (wires_out c) ≡ Ok tt) → (z : Sizes) → r ≡ Ok z
+    assures : ((c : Circuit) → read ≡ Ok c → check_circuit c.nodes (wires_out c) ≡ Ok tt) → (z : Sizes) → r ≡ Ok z
         → (z.nodes * 9 ≤ length N → z.outputs * 5 ≤ length O → Carries (take (z.nodes * 9) N) (take (z.outputs * 5) O) window keys assignment old ready successors order answers evaluated b order' values' answers' evaluated')
         → RefusesRead N z.nodes O z.outputs window keys ready successors order (length old) answers evaluated b ready' successors' order' values' answers' evaluated'
         → Assures read window keys assignment old ready successors order answers evaluated b order' values' answers' evaluated'
@@ -113,3 +113,21 @@ module _ (read : Try Circuit) (n o : ℕ) (r : Try Sizes) (N O : List ℕ) (answ
             (ap₂ (λ (x y : List ℕ). schedule_fault x y window keys ready successors order) (nodes_front z p c q) (outputs_front z p c q) ∙ fault);
       },
     )
+
+    -- the composed call, of whatever the reader answers
+    pub composed : ((c : Circuit) → read ≡ Ok c → check_circuit c.nodes (wires_out c) ≡ Ok tt)
+        → IfOk r (λ z. z.nodes * 9 ≤ length N → z.outputs * 5 ≤ length O → Carries (take (z.nodes * 9) N) (take (z.outputs * 5) O) window keys assignment old ready successors order answers evaluated b order' values' answers' evaluated')
+        → IfErr r (λ e. RefusedBoth e ready successors order (length old) answers evaluated b ready' successors' order' values' answers' evaluated')
+        → IfOk r (λ z. RefusesRead N z.nodes O z.outputs window keys ready successors order (length old) answers evaluated b ready' successors' order' values' answers' evaluated')
+        → Assures read window keys assignment old ready successors order answers evaluated b order' values' answers' evaluated'
+        × Refuses read window keys ready successors order (length old) answers evaluated b ready' successors' order' values' answers' evaluated'
+    composed sound = go r refl
+      where
+        go : (x : Try Sizes) → r ≡ x
+            → IfOk x (λ z. z.nodes * 9 ≤ length N → z.outputs * 5 ≤ length O → Carries (take (z.nodes * 9) N) (take (z.outputs * 5) O) window keys assignment old ready successors order answers evaluated b order' values' answers' evaluated')
+            → IfErr x (λ e. RefusedBoth e ready successors order (length old) answers evaluated b ready' successors' order' values' answers' evaluated')
+            → IfOk x (λ z. RefusesRead N z.nodes O z.outputs window keys ready successors order (length old) answers evaluated b ready' successors' order' values' answers' evaluated')
+            → Assures read window keys assignment old ready successors order answers evaluated b order' values' answers' evaluated'
+            × Refuses read window keys ready successors order (length old) answers evaluated b ready' successors' order' values' answers' evaluated'
+        go (Ok z) p ran zeros refused = assures sound z p ran refused
+        go (Err e) p ran zeros refused = refuses e p zeros

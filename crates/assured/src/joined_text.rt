@@ -6,7 +6,7 @@ ghost use Rattle.assurance.specs.Carried.{Cleared};
 ghost use Rattle.assured.specs.Assured.{Sounds, Assures, Refuses};
 ghost use Rattle.assured.specs.Sounds.{blif_sounds, bench_sounds};
 
-use assurance::{Both, refuse_both, run_read};
+use assurance::{Asked, Both, run_read};
 use bench::read::Bench;
 use blif::read::Blif;
 use reading::format::{Format, parse};
@@ -30,26 +30,21 @@ pub fn assured_text<F: Sound>(
     nodes: &mut [usize],
     names: &mut [usize],
     outputs: &mut [usize],
-    window: usize,
-    keys: &[u32],
+    asked: Asked,
     ready: &mut [usize],
     successors: &mut [usize],
     order: &mut [usize],
-    assignment: &[u8],
     values: &mut [u8],
     answers: &mut [u8],
     evaluated: &mut [u8],
 ) -> Both
     ensures leaves { Leaves text.now (read_text F.lines text.now (length joined.old) (length nodes.old) (length names.old) (length outputs.old)) (length joined.old) (length nodes.old) (length names.old) (length outputs.old) (read_answer (read_text F.lines text.now (length joined.old) (length nodes.old) (length names.old) (length outputs.old))) joined.new nodes.new names.new outputs.new }
-    ensures assures { Assures (read_text F.lines text.now (length joined.old) (length nodes.old) (length names.old) (length outputs.old)) window keys.now assignment.now values.old (length ready.old) (length successors.old) (length order.old) (length answers.old) (length evaluated.old) result order.new values.new answers.new evaluated.new }
-    ensures refuses { Refuses (read_text F.lines text.now (length joined.old) (length nodes.old) (length names.old) (length outputs.old)) window keys.now (length ready.old) (length successors.old) (length order.old) (length values.old) (length answers.old) (length evaluated.old) result ready.new successors.new order.new values.new answers.new evaluated.new }
+    ensures assures { Assures (read_text F.lines text.now (length joined.old) (length nodes.old) (length names.old) (length outputs.old)) asked.entry.window asked.entry.keys.now asked.entry.assignment.now values.old (length ready.old) (length successors.old) (length order.old) (length answers.old) (length evaluated.old) result order.new values.new answers.new evaluated.new }
+    ensures refuses { Refuses (read_text F.lines text.now (length joined.old) (length nodes.old) (length names.old) (length outputs.old)) asked.entry.window asked.entry.keys.now (length ready.old) (length successors.old) (length order.old) (length values.old) (length answers.old) (length evaluated.old) result ready.new successors.new order.new values.new answers.new evaluated.new }
     ensures cleared { Cleared (length ready.old) (length successors.old) (length values.old) ready.new successors.new values.new }
 {
-    match parse::<F>(text, joined, nodes, names, outputs) {
-        Ok(sizes) => run_read(
-            nodes, outputs, sizes, window, keys, ready, successors, order, assignment, values,
-            answers, evaluated,
-        ),
-        Err(e) => refuse_both(e, ready, successors, order, values, answers, evaluated),
-    }
+    let read = parse::<F>(text, joined, nodes, names, outputs);
+    run_read(
+        nodes, outputs, read, asked, ready, successors, order, values, answers, evaluated,
+    )
 }

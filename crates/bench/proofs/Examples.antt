@@ -1,15 +1,14 @@
 -- 01's examples, the refusals in their order, and areas that are one record short, computed from the definition.
 -- Assumes nothing.
-use Rattle.std.specs.Prelude.{Err, Ok}
+use Rattle.std.specs.Prelude.{Err}
 use Prim.Native.Nat.{ℕ}
 use mathlib.Core.Path.{◌≡◌, refl, subst}
-use mathlib.Core.List.{List, [], ◌∷◌, ◌++◌, map}
-use Rattle.laws.specs.Areas.{encodes, capacity}
+use mathlib.Core.List.{List, [], ◌∷◌, map}
+use Rattle.laws.specs.Areas.{capacity}
 use Rattle.laws.specs.Stretches.{stretch, run, same_bytes}
 use Rattle.circuit.specs.declared.refusals.Refusal.TheVariants.{NoRoom}
 use Rattle.circuit.specs.declared.records.Sizes.{Sizes}
-use Rattle.circuit.specs.Refusals.{Try, number_of}
-use Rattle.circuit.specs.Records.{encode_node, encode_output}
+use Rattle.circuit.specs.Refusals.{Try}
 use Rattle.circuit.specs.Circuits.{Circuit}
 use Rattle.text.specs.Bytes.{is_ascii, upper}
 use Rattle.text.specs.Blanks.{is_blank, trim, trim_start, trim_end, trimmed}
@@ -17,29 +16,15 @@ use Rattle.text.specs.Lines.{raw_lines, uncommented, kept, kept_of, kept_lines, 
 use Rattle.text.specs.Joining.{continued, all_but_last, part, gather, joined_from, logical_lines, ended, joined_text}
 use Rattle.names.specs.Names.{lookup}
 use Rattle.reading.specs.Reading.{bytes_fault, text_fault, find, add_name, add_node, add_alias, add_named, add_input, add_output, each, resolve, closed, finish}
+use Rattle.reading.proofs.Cases.{Case, areas, read_by}
 use Rattle.reading.specs.Areas.{read_text, Leaves, Zeroed}
 use Rattle.bench_invocations.specs.Invocations.{arguments_of, none_empty, parts, up_to_last, invocation, parse_invocation}
 use Rattle.bench_gates.specs.Operations.{binary_of, operation_of}
 use Rattle.bench_gates.specs.Gates.{input_wires, chain, chained, lower_gate}
 use Rattle.bench.specs.Bench.{gate_invoked, gate_of, gate_line, declaration_of, declared_in, declare, declaration_line, line_step, read_line, bench_lines, bench}
 
--- the words of the nodes, then of the outputs; or the refusal's number alone
-abbrev seen : Try Circuit → List ℕ
-seen (Err e) = number_of e ∷ []
-seen (Ok c) = encodes encode_node c.nodes ++ encodes encode_output c.outputs
-
--- a text, and how many words there are for nodes, names and outputs
-record Case : Type 0 where
-  text : List ℕ
-  nodes : ℕ
-  names : ℕ
-  outputs : ℕ
-
-abbrev areas : List ℕ → ℕ → ℕ → ℕ → Case
-areas t n m o = record { text = t; nodes = n; names = m; outputs = o }
-
 read : Case → List ℕ
-read c = seen (bench c.text 128 c.nodes c.names c.outputs)
+read c = read_by bench c
 
 -- NAND(a, b, c): table 8 at the step, which is named with its number and takes no name record, then table 7; one record less of any area is 3
 nand : map read (areas (73 ∷ 78 ∷ 80 ∷ 85 ∷ 84 ∷ 40 ∷ 97 ∷ 41 ∷ 10 ∷ 73 ∷ 78 ∷ 80 ∷ 85 ∷ 84 ∷ 40 ∷ 98 ∷ 41 ∷ 10 ∷ 73 ∷ 78 ∷ 80 ∷ 85 ∷ 84 ∷ 40 ∷ 99 ∷ 41 ∷ 10 ∷ 79 ∷ 85 ∷ 84 ∷ 80 ∷ 85 ∷ 84 ∷ 40 ∷ 121 ∷ 41 ∷ 10 ∷ 121 ∷ 32 ∷ 61 ∷ 32 ∷ 78 ∷ 65 ∷ 78 ∷ 68 ∷ 40 ∷ 97 ∷ 44 ∷ 32 ∷ 98 ∷ 44 ∷ 32 ∷ 99 ∷ 41 ∷ 10 ∷ []) 45 16 5 ∷ areas (73 ∷ 78 ∷ 80 ∷ 85 ∷ 84 ∷ 40 ∷ 97 ∷ 41 ∷ 10 ∷ 73 ∷ 78 ∷ 80 ∷ 85 ∷ 84 ∷ 40 ∷ 98 ∷ 41 ∷ 10 ∷ 73 ∷ 78 ∷ 80 ∷ 85 ∷ 84 ∷ 40 ∷ 99 ∷ 41 ∷ 10 ∷ 79 ∷ 85 ∷ 84 ∷ 80 ∷ 85 ∷ 84 ∷ 40 ∷ 121 ∷ 41 ∷ 10 ∷ 121 ∷ 32 ∷ 61 ∷ 32 ∷ 78 ∷ 65 ∷ 78 ∷ 68 ∷ 40 ∷ 97 ∷ 44 ∷ 32 ∷ 98 ∷ 44 ∷ 32 ∷ 99 ∷ 41 ∷ 10 ∷ []) 44 16 5 ∷ areas (73 ∷ 78 ∷ 80 ∷ 85 ∷ 84 ∷ 40 ∷ 97 ∷ 41 ∷ 10 ∷ 73 ∷ 78 ∷ 80 ∷ 85 ∷ 84 ∷ 40 ∷ 98 ∷ 41 ∷ 10 ∷ 73 ∷ 78 ∷ 80 ∷ 85 ∷ 84 ∷ 40 ∷ 99 ∷ 41 ∷ 10 ∷ 79 ∷ 85 ∷ 84 ∷ 80 ∷ 85 ∷ 84 ∷ 40 ∷ 121 ∷ 41 ∷ 10 ∷ 121 ∷ 32 ∷ 61 ∷ 32 ∷ 78 ∷ 65 ∷ 78 ∷ 68 ∷ 40 ∷ 97 ∷ 44 ∷ 32 ∷ 98 ∷ 44 ∷ 32 ∷ 99 ∷ 41 ∷ 10 ∷ []) 45 15 5 ∷ areas (73 ∷ 78 ∷ 80 ∷ 85 ∷ 84 ∷ 40 ∷ 97 ∷ 41 ∷ 10 ∷ 73 ∷ 78 ∷ 80 ∷ 85 ∷ 84 ∷ 40 ∷ 98 ∷ 41 ∷ 10 ∷ 73 ∷ 78 ∷ 80 ∷ 85 ∷ 84 ∷ 40 ∷ 99 ∷ 41 ∷ 10 ∷ 79 ∷ 85 ∷ 84 ∷ 80 ∷ 85 ∷ 84 ∷ 40 ∷ 121 ∷ 41 ∷ 10 ∷ 121 ∷ 32 ∷ 61 ∷ 32 ∷ 78 ∷ 65 ∷ 78 ∷ 68 ∷ 40 ∷ 97 ∷ 44 ∷ 32 ∷ 98 ∷ 44 ∷ 32 ∷ 99 ∷ 41 ∷ 10 ∷ []) 45 16 4 ∷ []) ≡ (1 ∷ 0 ∷ 0 ∷ 1 ∷ 6 ∷ 1 ∷ 0 ∷ 0 ∷ 0 ∷ 1 ∷ 0 ∷ 0 ∷ 1 ∷ 15 ∷ 1 ∷ 0 ∷ 0 ∷ 0 ∷ 1 ∷ 0 ∷ 0 ∷ 1 ∷ 24 ∷ 1 ∷ 0 ∷ 0 ∷ 0 ∷ 2 ∷ 2 ∷ 8 ∷ 2 ∷ 37 ∷ 1 ∷ 1 ∷ 2 ∷ 3 ∷ 2 ∷ 2 ∷ 7 ∷ 1 ∷ 37 ∷ 1 ∷ 0 ∷ 5 ∷ 4 ∷ 1 ∷ 34 ∷ 1 ∷ 0 ∷ 6 ∷ []) ∷ (3 ∷ []) ∷ (3 ∷ []) ∷ (3 ∷ []) ∷ []

@@ -2,7 +2,7 @@
 -- Assumes nothing.
 use Rattle.std.specs.Prelude.{Err, None, Ok, Option, Some, is_some}
 use Prim.Native.Nat.{ℕ, ◌+◌, ◌≤◌, ◌<◌}
-use mathlib.Core.Path.{◌≡◌, refl, ap, ◌∙◌}
+use mathlib.Core.Path.{◌≡◌, refl}
 use mathlib.Core.Bool.{true, false}
 use mathlib.Core.List.{List, [], ◌∷◌}
 use native.Mathlib.Omega.{arith}
@@ -18,11 +18,11 @@ use Rattle.reading.specs.Reading.{Places, Held, find, unless_defined}
 use Rattle.reading.specs.Holding.{outcome}
 use Rattle.bench_invocations.specs.declared.invocation.Invocation.{Invocation}
 use Rattle.bench_invocations.specs.Invocations.{Invoked, parse_invocation}
-use Rattle.bench_invocations.specs.Walks.{arguments_from, invoked, NotedIn}
+use Rattle.bench_invocations.specs.Walks.{arguments_left, invoked, NotedIn}
 use Rattle.bench_gates.specs.declared.operations.Operation.{Operation}
 use Rattle.bench_gates.specs.declared.plans.Plan.{Plan}
 use Rattle.bench_gates.specs.Operations.{operation_of}
-use Rattle.bench_gates.specs.Gates.{input_wires, only_one, lower_gate}
+use Rattle.bench_gates.specs.Gates.{input_wires, lower_gate}
 use Rattle.bench_gates.specs.Walks.{first_three}
 use Rattle.bench_gates.proofs.Drivers.{driven, no_yes}
 use Rattle.bench.specs.declared.declarations.Declaration.{Declaration}
@@ -39,21 +39,21 @@ plan_refused t es out e g q = record { is = q; fits = tt }
 
 module _ (t : List ℕ) (es : List Entry) (i : Invocation) where
   -- a gate's inputs, one of them without a driver
-  pub inputs_refused : (e : Refusal) → Err e ≡ outcome first_three (input_wires t es (arguments_from t i.from i.end)) → Err e ≡ gate_invoked t es (invoked t i)
+  pub inputs_refused : (e : Refusal) → Err e ≡ outcome first_three (input_wires t es (arguments_left i.arguments)) → Err e ≡ gate_invoked t es (invoked i)
   unfolding gate_invoked
-  inputs_refused e q = go (input_wires t es (arguments_from t i.from i.end)) q
+  inputs_refused e q = go (input_wires t es (arguments_left i.arguments)) q
     where
       go : (r : Try (List ℕ)) → Err e ≡ outcome first_three r → Err e ≡ and_then r (λ xs. Ok (gate (operation_of (bytes_of t i.operation)) xs))
       go (Err g) h = let z : e ≡ g = cc in rw z
       go (Ok xs) h = absurd (no_yes h)
 
   pub plan_made : NotedIn t i → (out : Word) → out.start + out.len ≤ length t → (o : Operation) → o ≡ operation_of (bytes_of t i.operation)
-      → (w : List ℕ) → Ok w ≡ outcome first_three (input_wires t es (arguments_from t i.from i.end))
-      → PlanIs t es out (Ok (record { out = out; operation = o; from = i.from; end = i.end; inputs = i.count; wires = w })) (gate_invoked t es (invoked t i))
+      → (w : List ℕ) → Ok w ≡ outcome first_three (input_wires t es (arguments_left i.arguments))
+      → PlanIs t es out (Ok (record { out = out; operation = o; arguments = i.arguments; inputs = i.count; wires = w })) (gate_invoked t es (invoked i))
   unfolding gate_invoked
   plan_made v out h o eo w q = record {
     is = rw eo;
-    fits = record { out_is = refl; inside = h; reach = v.reach; driven = driven t es _ q v.count_is };
+    fits = record { out_is = refl; inside = h; driven = driven t es _ v.same_text q v.count_is };
   }
 
 module _ (t : List ℕ) (out expression : Word) (es : List Entry) where
@@ -83,14 +83,10 @@ module _ (t : List ℕ) (out expression : Word) (es : List Entry) where
         go None k = refl
 
 module _ (t : List ℕ) (p : Places) (out expression : Word) (h : Held) where
-  pub gate-stop : (e : Refusal) → Err e ≡ gate_of t out expression h.names → Err e ≡ gate_line t p out expression h
-  unfolding gate_line
-  gate-stop e q = rw (← q)
-
   pub gate_on : (r : Plan) → planned t h.names r ≡ gate_of t out expression h.names → out ≡ r.out
-      → and_then (input_wires t h.names (arguments_from t r.from r.end)) (λ xs. lower_gate p r.out r.operation xs h) ≡ gate_line t p out expression h
+      → and_then (input_wires t h.names (arguments_left r.arguments)) (λ xs. lower_gate p r.out r.operation xs h) ≡ gate_line t p out expression h
   unfolding gate_line
-  gate_on r q o = rw (← q, o) (go (input_wires t h.names (arguments_from t r.from r.end)))
+  gate_on r q o = rw (← q, o) (go (input_wires t h.names (arguments_left r.arguments)))
     where
       go : (x : Try (List ℕ)) → and_then x (λ xs. lower_gate p r.out r.operation xs h)
           ≡ and_then (and_then x (λ xs. Ok (gate r.operation xs))) (λ g. lower_gate p r.out g.operation g.inputs h)
@@ -110,21 +106,17 @@ module _ (t : List ℕ) (l : Word) where
   unfolding declared_in
   name_malformed e q = rw (← q)
 
-  module _ (i : Invocation) (v : NotedIn t i) (s : Ok (invoked t i) ≡ parse_invocation t l) where
-    pub not-one_name : (i.count ≡ 1 → ⊥) → Err WrongCount ≡ declared_in t l
+  -- what an invocation declares, by the first of its arguments and those after it
+  module _ (i : Invocation) (s : Ok (invoked i) ≡ parse_invocation t l) where
+    pub no_name : arguments_left i.arguments ≡ [] → Err WrongCount ≡ declared_in t l
     unfolding declared_in
-    not-one_name ne = rw (← s) (go (arguments_from t i.from i.end) (λ q. ne (v.count_is ∙ q)))
-      where
-        go : (ws : List Word) → (length ws ≡ 1 → ⊥) → Err WrongCount ≡ and_then (only_one ws) (λ w. Ok (declared (declaration_of (bytes_of t i.operation)) w))
-        go [] n = refl
-        go (w ∷ []) n = absurd (n refl)
-        go (w ∷ x ∷ xs) n = refl
+    no_name e = rw (← s, e)
 
-    pub one_name : i.count ≡ 1 → (w : Word) (rest : List Word) → arguments_from t i.from i.end ≡ w ∷ rest → (d : Declaration) → d ≡ declaration_of (bytes_of t i.operation)
-        → Ok (declared d w) ≡ declared_in t l
-    unfolding declared_in
-    one_name one w rest e d ed = rw (← s, e, ed) (go rest (omega (arith, v.count_is, ap length e)))
-      where
-        go : (ws : List Word) → length ws ≡ 0 → Ok (declared (declaration_of (bytes_of t i.operation)) w) ≡ and_then (only_one (w ∷ ws)) (λ x. Ok (declared (declaration_of (bytes_of t i.operation)) x))
-        go [] n = refl
-        go (x ∷ xs) n = absurd (omega arith)
+    module _ (w : Word) (rest : List Word) (e : arguments_left i.arguments ≡ w ∷ rest) where
+      pub more_names : (x : Word) (xs : List Word) → rest ≡ x ∷ xs → Err WrongCount ≡ declared_in t l
+      unfolding declared_in
+      more_names x xs f = rw (← s, e, f)
+
+      pub one_name : rest ≡ [] → (d : Declaration) → d ≡ declaration_of (bytes_of t i.operation) → Ok (declared d w) ≡ declared_in t l
+      unfolding declared_in
+      one_name f d ed = rw (← s, e, f, ed)

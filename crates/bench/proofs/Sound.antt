@@ -1,8 +1,8 @@
 -- Every circuit that the BENCH reader accepts passes the circuit check.
 -- Assumes nothing.
-use Rattle.std.specs.Prelude.{Err, None, Ok, Option, Some}
+use Rattle.std.specs.Prelude.{Ok}
 use Prim.Native.Nat.{ℕ, suc, ◌+◌, ◌≤◌, ◌<◌}
-use mathlib.Core.Path.{◌≡◌, refl, ap, subst}
+use mathlib.Core.Path.{◌≡◌, refl, sym, subst}
 use mathlib.Core.Bool.{Bool, true, false, cond}
 use mathlib.Core.List.{List, [], ◌∷◌}
 use native.Mathlib.Omega.{arith}
@@ -12,21 +12,23 @@ use Rattle.laws.specs.Stretches.{All, run, is_not}
 use Rattle.laws.proofs.Stretches.{all_map}
 use Rattle.circuit.specs.declared.refusals.Refusal.TheVariants.{Malformed}
 use Rattle.circuit.specs.declared.records.Name.{Name}
-use Rattle.circuit.specs.Refusals.{Try, and_then}
+use Rattle.circuit.specs.Refusals.{and_then}
 use Rattle.circuit.specs.Check.{check_circuit}
 use Rattle.circuit.specs.Circuits.{Circuit}
 use Rattle.circuit.proofs.Tries.{no_yes, yes_same, then_yes, need-yes, check_yes}
 use Rattle.circuit.proofs.Sitting.{Sits, word_below, one_sits, two_sits}
 use Rattle.text.specs.Lines.{lines}
 use Rattle.text.specs.Blanks.{trimmed}
-use Rattle.text.specs.Words.{bytes_of}
+use Rattle.text.specs.Words.{bytes_of, between}
 use Rattle.text.specs.Joining.{joined_text}
 use Rattle.text.specs.declared.words.Word.{Word}
 use Rattle.names.specs.Names.{Entry}
-use Rattle.reading.specs.Reading.{Places, Held, State, start, find, unless_defined, driver, add_node, add_input, add_output, each, finish, places_in, text_fault}
+use Rattle.reading.specs.Reading.{Places, Held, State, start, find, driver, add_node, add_input, add_output, each, finish, places_in, text_fault}
+use Rattle.reading.specs.States.{with_held}
 use Rattle.reading.specs.Areas.{read_text}
+use Rattle.reading.proofs.States.{held_yes, outputs-yes, undefined_yes}
 use Rattle.reading.proofs.Sound.{Wired, HeldSound, start-sound, wired_more, driver_below, alias_sound, node_sits, named-sound, input_sound, each_keeps, wires_out, finish-sound}
-use Rattle.bench_invocations.specs.Invocations.{between, parse_invocation}
+use Rattle.bench_invocations.specs.Invocations.{parse_invocation}
 use Rattle.bench_gates.specs.declared.operations.Binary.{Binary}
 use Rattle.bench_gates.specs.declared.operations.Binary.TheVariants.{And, Nand, Or, Nor, Xor, Xnor}
 use Rattle.bench_gates.specs.declared.operations.Operation.{Operation}
@@ -35,7 +37,7 @@ use Rattle.bench_gates.specs.Operations.{truth_table, associative}
 use Rattle.bench_gates.specs.Gates.{input_wires, only_one, cell, output_name, step_name, inverter, step_cell, last_cell, with_nodes, chain, chained, lower_gate}
 use Rattle.bench.specs.declared.declarations.Declaration.{Declaration}
 use Rattle.bench.specs.declared.declarations.Declaration.TheVariants.{Input, Output, Other as OtherDeclaration}
-use Rattle.bench.specs.Bench.{Gate, gate_invoked, gate_of, gate_line, declared_in, with_held, with_outputs, declare, declaration_line, line_step, read_line, bench_lines, bench}
+use Rattle.bench.specs.Bench.{Gate, gate_invoked, gate_of, gate_line, declared_in, declare, declaration_line, line_step, read_line, bench_lines, bench}
 
 -- ---- gates
 
@@ -90,35 +92,23 @@ lower_sound p out (Chain o) [] h h' a s q = absurd (no_yes q)
 lower_sound p out (Chain o) (x ∷ ys) h h' a s q = chain-sound p out o 1 x ys h h' a.0 a.1 s q
 lower_sound p out Other xs h h' a s q = absurd (no_yes q)
 
-undefined_inv : {A : Type 0} (f : (Option ℕ)) (k : Try A) (a : A) → unless_defined f k ≡ Ok a → k ≡ Ok a
-undefined_inv (Some x) k a q = absurd (no_yes q)
-undefined_inv None k a q = q
-
 gate-sound : (t : List ℕ) (p : Places) (out expression : Word) (h h' : Held) → HeldSound h → gate_line t p out expression h ≡ Ok h' → HeldSound h'
 unfolding gate_line gate_of gate_invoked
 gate-sound t p out expression h h' s q =
     let g = then_yes (gate_of t out expression h.names) _ h' q in
     let n = need-yes (ltb 0 out.len) Malformed _ g.0 g.1 in
-    let u = undefined_inv (find true t out h.names) _ g.0 n.1 in
-    let i = then_yes (parse_invocation t expression) (gate_invoked t h.names) g.0 u in
+    let u = undefined_yes (find true t out h.names) _ g.0 n.1 in
+    let i = then_yes (parse_invocation t expression) (gate_invoked t h.names) g.0 u.1 in
     let w = then_yes (input_wires t h.names i.0.arguments) _ g.0 i.2 in
     lower_sound p out g.0.operation g.0.inputs h h'
     (subst (λ (x : Gate). All (λ v. v < length h.nodes + 2) x.inputs) (yes_same w.2) (wires_below (length h.nodes) t h.names i.0.arguments w.0 s.names w.1)) s g.2
 
 -- ---- lines
 
-held_inv : (os : List Word) (r : Try Held) (s : State) → with_held os r ≡ Ok s → r ≡ Ok s.held
-held_inv os (Err e) s q = absurd (no_yes q)
-held_inv os (Ok h) s q = ap (λ (x : State). Ok x.held) (yes_same q)
-
-outputs_inv : (h : Held) (r : Try (List Word)) (s : State) → with_outputs h r ≡ Ok s → h ≡ s.held
-outputs_inv h (Err e) s q = absurd (no_yes q)
-outputs_inv h (Ok os) s q = ap (λ (x : State). x.held) (yes_same q)
-
 declare-sound : (t : List ℕ) (p : Places) (d : Declaration) (w : Word) (s s' : State) → HeldSound s.held → declare t p d w s ≡ Ok s' → HeldSound s'.held
 unfolding declare
-declare-sound t p Input w s s' h q = input_sound true t p w s.held s'.held h (held_inv s.outputs (add_input true t p w s.held) s' q)
-declare-sound t p Output w s s' h q = subst HeldSound (outputs_inv s.held (add_output p.outputs w s.outputs) s' q) h
+declare-sound t p Input w s s' h q = input_sound true t p w s.held s'.held h (held_yes s.outputs (add_input true t p w s.held) s' q).0
+declare-sound t p Output w s s' h q = subst HeldSound (sym (outputs-yes s.held (add_output p.outputs w s.outputs) s' q).1) h
 declare-sound t p OtherDeclaration w s s' h q = absurd (no_yes q)
 
 line_sound : (t : List ℕ) (p : Places) (at end cut : ℕ) (s s' : State) → HeldSound s.held → line_step t p at end cut s ≡ Ok s' → HeldSound s'.held
@@ -126,7 +116,7 @@ unfolding line_step declaration_line
 line_sound t p at end cut s s' h q = go (ltb cut end) q
   where
     go : (b : Bool) → cond b (with_held s.outputs (gate_line t p (trimmed t (between at cut)) (between (cut + 1) end) s.held)) (declaration_line t p (between at end) s) ≡ Ok s' → HeldSound s'.held
-    go true r = gate-sound t p (trimmed t (between at cut)) (between (cut + 1) end) s.held s'.held h (held_inv s.outputs (gate_line t p (trimmed t (between at cut)) (between (cut + 1) end) s.held) s' r)
+    go true r = gate-sound t p (trimmed t (between at cut)) (between (cut + 1) end) s.held s'.held h (held_yes s.outputs (gate_line t p (trimmed t (between at cut)) (between (cut + 1) end) s.held) s' r).0
     go false r =
         let d = then_yes (declared_in t (between at end)) _ s' r in
         declare-sound t p d.0.declaration d.0.name s s' h d.2

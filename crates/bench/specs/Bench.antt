@@ -7,13 +7,14 @@ use Rattle.circuit.specs.Refusals.{Try, and_then, need}
 use Rattle.circuit.specs.Circuits.{Circuit}
 use Rattle.text.specs.Bytes.{is_named}
 use Rattle.text.specs.Blanks.{trimmed}
-use Rattle.text.specs.Words.{bytes_of}
+use Rattle.text.specs.Words.{bytes_of, between}
 use Rattle.text.specs.Lines.{lines}
 use Rattle.text.specs.declared.words.Word.{Word}
 use Rattle.names.specs.Names.{Entry}
 use Rattle.reading.specs.Reading.{Places, Held, State, start, find, unless_defined, add_input, add_output, each, finish}
+use Rattle.reading.specs.States.{with_held, with_outputs}
 use Rattle.reading.specs.Areas.{read_text}
-use Rattle.bench_invocations.specs.Invocations.{Invoked, between, parse_invocation}
+use Rattle.bench_invocations.specs.Invocations.{Invoked, parse_invocation}
 use Rattle.bench_gates.specs.declared.operations.Operation.{Operation}
 use Rattle.bench_gates.specs.Operations.{operation_of}
 use Rattle.bench_gates.specs.Gates.{input_wires, only_one, lower_gate}
@@ -56,14 +57,6 @@ unfoldable pub declared_in : List ℕ → Word → Try Declared
 declared_in t l =
     and_then (parse_invocation t l)
     (λ i. and_then (only_one i.arguments) (λ w. Ok (record { declaration = declaration_of (bytes_of t i.operation); name = w })))
-
-abbrev pub with_held : List Word → Try Held → Try State
-with_held os (Err e) = Err e
-with_held os (Ok h) = Ok (record { held = h; outputs = os })
-
-abbrev pub with_outputs : Held → Try (List Word) → Try State
-with_outputs h (Err e) = Err e
-with_outputs h (Ok os) = Ok (record { held = h; outputs = os })
 
 -- "`INPUT` 4, `OUTPUT` collected, others 8"
 unfoldable pub declare : List ℕ → Places → Declaration → Word → State → Try State

@@ -1,26 +1,29 @@
 -- What the code notes of a line before it adds anything, and what it leaves.
 -- Assumes nothing.
-use Rattle.std.specs.Prelude.{ℕ, ◌+◌, ◌≤◌, ◌≡◌, List, length, Ok, IfOk}
+use Rattle.std.specs.Prelude.{ℕ, ◌+◌, ◌≤◌, ◌≡◌, true, List, length, Ok, IfOk}
+use mathlib.Core.Path.{refl}
 use Rattle.circuit.specs.Refusals.{Try, and_then}
+use Rattle.text.specs.Lines.{lines}
 use Rattle.text.specs.declared.words.Word.{Word}
 use Rattle.names.specs.Names.{Entry}
-use Rattle.reading.specs.Holding.{outcome, WordsKept}
-use Rattle.bench_invocations.specs.Walks.{arguments_from}
+use Rattle.reading.specs.Reading.{Places, State, start, each, finish}
+use Rattle.reading.specs.declared.records.Reading.{Reading}
+use Rattle.reading.specs.Holding.{outcome, Kept, KeptForSome, WordsKept}
+use Rattle.bench_invocations.specs.Walks.{arguments_left}
 use Rattle.bench_gates.specs.declared.plans.Plan.{Plan}
 use Rattle.bench_gates.specs.Gates.{input_wires}
 use Rattle.bench_gates.specs.Walks.{Driven}
 use Rattle.bench.specs.declared.declarations.Named.{Named}
-use Rattle.bench.specs.Bench.{Gate, Declared}
+use Rattle.bench.specs.Bench.{Gate, Declared, read_line, bench_lines}
 
 -- the gate of a plan, its inputs looked up
 abbrev pub planned : List ℕ → List Entry → Plan → Try Gate
-planned t es p = and_then (input_wires t es (arguments_from t p.from p.end)) (λ xs. Ok (record { operation = p.operation; inputs = xs }))
+planned t es p = and_then (input_wires t es (arguments_left p.arguments)) (λ xs. Ok (record { operation = p.operation; inputs = xs }))
 
 -- a plan for an output, in the text, whose inputs have drivers
 pub record PlanFits (t : List ℕ) (es : List Entry) (out : Word) (p : Plan) : Type 0 where
   pub out_is : out ≡ p.out
   pub inside : p.out.start + p.out.len ≤ length t
-  pub reach : p.end ≤ length t
   pub driven : Driven t es p
 
 -- the plan of a gate, or the refusal
@@ -37,6 +40,20 @@ pub record NamedIs (t : List ℕ) (r : Try Named) (d : Try Declared) : Type 0 wh
   pub is : outcome declared_as r ≡ d
   pub inside : IfOk r (λ n. n.name.start + n.name.len ≤ length t)
 
--- in order for some count, as a refusal leaves them
-abbrev pub WordsKeptForSome : List ℕ → List ℕ → Type 0
-WordsKeptForSome t os = (n : ℕ) × WordsKept t os n
+-- the areas are in order, for what has been read
+pub record ReadKept (t heads ns ms os : List ℕ) (r : Reading) : Type 0 where
+  pub kept : Kept t heads ns ms r.counts
+  pub words : WordsKept t os r.outputs
+
+-- as a refusal leaves them: the outputs as they were
+pub record RefusedKept (t heads ns ms os : List ℕ) (r : Reading) : Type 0 where
+  pub kept : KeptForSome t heads ns ms
+  pub words : WordsKept t os r.outputs
+
+-- what the lines of a text add to nothing, one after the other; the circuit is what they give, once the outputs have their wires
+abbrev pub bench_reads : List ℕ → Places → Try State
+bench_reads t p = each (read_line t p) (lines 0 t) start
+
+pub bench_ends : (t : List ℕ) (p : Places) → bench_lines t p ≡ and_then (bench_reads t p) (finish true t)
+unfolding bench_lines
+bench_ends t p = refl

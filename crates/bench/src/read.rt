@@ -1,40 +1,44 @@
 // The reader: a text into a circuit, or its refusal.
-ghost use Rattle.std.specs.Prelude.{length};
+ghost use Rattle.std.specs.Prelude.{true, length};
 ghost use Rattle.reading.specs.Areas.{Leaves};
 ghost use Rattle.bench.specs.Bench.{bench_lines, bench};
+ghost use Rattle.bench.specs.Plans.{bench_reads, bench_ends};
 
-use crate::lines::read_lines;
+use crate::lines;
+use bench_gates::inputs;
 use circuit::records::Sizes;
 use circuit::refusals::Refusal;
 use names::NameTable;
-use reading::format::{Format, parse};
-use reading::outputs::resolve_outputs;
+use reading::format::{Format, Names, parse};
+use reading::records::Reading;
+use text::words::Word;
 
 // The format ISCAS BENCH.
 pub struct Bench;
 
+impl Names for Bench {
+    ghost constants = { true };
+
+    fn find_wire(table: &NameTable, word: Word) -> Option<usize> {
+        inputs::find_wire(table, word)
+    }
+}
+
 impl Format for Bench {
     ghost lines = { bench_lines };
 
-    fn read_joined(
+    ghost reads = { bench_reads };
+
+    ghost ends = { bench_ends };
+
+    fn read_lines(
         text: &[u8],
+        heads: &mut [usize; 256],
         nodes: &mut [usize],
         names: &mut [usize],
         outputs: &mut [usize],
-    ) -> Result<Sizes, Refusal> {
-        let mut heads = [0; 256];
-        let read = read_lines(text, &mut heads, nodes, names, outputs)?;
-        let table = NameTable {
-            text,
-            heads: &heads,
-            names,
-            count: read.counts.names,
-        };
-        resolve_outputs(&table, true, outputs, read.outputs)?;
-        Ok(Sizes {
-            nodes: read.counts.nodes,
-            outputs: read.outputs,
-        })
+    ) -> Result<Reading, Refusal> {
+        lines::read_lines(text, heads, nodes, names, outputs)
     }
 }
 

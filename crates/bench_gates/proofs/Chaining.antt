@@ -1,16 +1,20 @@
 -- A chain as the code makes it, wire by wire, is the chain of the definition.
 -- Assumes nothing.
-use Rattle.std.specs.Prelude.{Err, None, Ok, Option, Some}
+use Rattle.std.specs.Prelude.{Err, None, Ok, Some}
 use Prim.Native.Nat.{ℕ, zero, suc, ◌+◌, ◌^◌, ◌≤◌, ◌<◌}
-use mathlib.Core.Path.{◌≡◌, refl, ap, ◌∙◌}
+use mathlib.Core.Path.{◌≡◌, refl, sym, ap, subst, ◌∙◌}
 use mathlib.Core.Bool.{true}
 use mathlib.Core.List.{List, [], ◌∷◌}
 use native.Mathlib.Numerals.{add-one}
 use native.Mathlib.Omega.{arith}
-use lib.ListN.{length}
-use Rattle.laws.specs.Areas.{capacity}
-use Rattle.circuit.specs.declared.refusals.Refusal.{Refusal}
-use Rattle.circuit.specs.declared.refusals.Refusal.TheVariants.{NoDriver}
+use lib.ListN.{length, get_or, drop}
+use Rattle.std.specs.declared.iter.Skip.{Skip}
+use Rattle.std.specs.Iterator.Adapters.{skip_source, skip_count, skip_steps}
+use Rattle.std.proofs.lemmas.Option.{none-some}
+use Rattle.std.proofs.lemmas.Iterator.{YieldsList}
+use Rattle.std.proofs.lemmas.Iterator.Adapters.{YieldsList-from_skip}
+use Rattle.std.proofs.lemmas.List.{get_or-drop, length-drop, drop_more}
+use Rattle.std.proofs.Common.{drop_of_length-le}
 use Rattle.circuit.specs.declared.records.BoolWire.{BoolWire}
 use Rattle.circuit.specs.declared.records.BoolNode.{BoolNode}
 use Rattle.circuit.specs.Refusals.{Try, and_then}
@@ -19,14 +23,16 @@ use Rattle.circuit.proofs.Codes.{length_nodes}
 use Rattle.text.specs.declared.words.Word.{Word}
 use Rattle.names.specs.Names.{Entry}
 use Rattle.reading.specs.Reading.{Places, places_in, Held, find, add_node, add_named}
-use Rattle.reading.specs.Holding.{outcome, NodesKept}
-use Rattle.bench_invocations.specs.Walks.{arguments_from}
+use Rattle.reading.specs.Holding.{outcome}
+use Rattle.bench_invocations.specs.declared.arguments.Arguments.{Arguments}
+use Rattle.bench_invocations.specs.Walks.{arguments_left, GivesArgument}
+use Rattle.bench_invocations.proofs.Inside.{arguments_given, argument_inside}
+use Rattle.bench_gates.specs.declared.plans.Plan.{Plan}
 use Rattle.bench_gates.specs.declared.chains.Chained.{Chained}
-use Rattle.bench_gates.specs.declared.inputs.Wired.{Wired}
 use Rattle.bench_gates.specs.declared.operations.Binary.{Binary}
-use Rattle.bench_gates.specs.Gates.{input_wires, step_cell, last_cell, with_nodes, chain}
-use Rattle.bench_gates.specs.Walks.{WiredIs, NotDriven, chain_words, rest_of, ChainedIs}
-use Rattle.bench_gates.proofs.Drivers.{inputs-none, inputs_rest, inputs-length, no_yes, yes_same}
+use Rattle.bench_gates.specs.Gates.{input_wires, step_cell, last_cell, with_nodes, chain, chained}
+use Rattle.bench_gates.specs.Walks.{Driven, rest_of}
+use Rattle.bench_gates.proofs.Drivers.{inputs-length, driver_at}
 
 -- ---- cells
 
@@ -46,45 +52,17 @@ counted : {B : Type 0} (new : List ℕ) (r : Try ℕ) (f : List BoolNode → Try
 counted new (Ok n) f = refl
 counted new (Err e) f = refl
 
-module _ (t : List ℕ) (p : Places) (out : Word) (o : Binary) (k x : ℕ) (w : Word) (ns : List ℕ) (n : ℕ) (es : List Entry) where
-  abbrev Here : List Word → Try Held
-  Here ws = chain_words t p out o k x ws (with_nodes (nodes_of ns n) es)
-
-  pub step-none : (rest : List Word) → 1 ≤ length rest → find true t w es ≡ None → Err NoDriver ≡ Here (w ∷ rest)
-  unfolding chain_words
-  step-none [] l e = absurd (omega arith)
-  step-none (v ∷ vs) l e = rw e
-
-  -- the step's node, as the code adds it, then what is left
-  pub step_made : (rest : List Word) → 1 ≤ length rest → (y : ℕ) → find true t w es ≡ Some y → (new : List ℕ) (r : Try ℕ)
-      → outcome (nodes_of new) r ≡ add_node p.nodes (step_cell out o k x y) (nodes_of ns n)
-      → and_then r (λ m. chain_words t p out o (k + 1) (n + 2) rest (with_nodes (nodes_of new m) es)) ≡ Here (w ∷ rest)
-  step_made [] l y e new r q = absurd (omega arith)
-  step_made (v ∷ vs) l y e new r q =
-      counted new r (λ (ms : List BoolNode). chain_words t p out o (k + 1) (n + 2) (v ∷ vs) (with_nodes ms es))
-      ∙ ap (λ (a : Try (List BoolNode)). and_then a (λ ms. chain_words t p out o (k + 1) (n + 2) (v ∷ vs) (with_nodes ms es))) q
-      ∙ unfolded
-    where
-      unfolded : and_then (add_node p.nodes (step_cell out o k x y) (nodes_of ns n)) (λ ms. chain_words t p out o (k + 1) (n + 2) (v ∷ vs) (with_nodes ms es)) ≡ Here (w ∷ v ∷ vs)
-      unfolded = unfold chain_words in rw (e, length_nodes ns n, add-one k)
-
-  last_none : (rest : List Word) → length rest ≡ 0 → find true t w es ≡ None → Err NoDriver ≡ Here (w ∷ rest)
-  unfolding chain_words
-  last_none [] l e = rw e
-  last_none (v ∷ vs) l e = absurd (omega arith)
-
-  last_made : (rest : List Word) → length rest ≡ 0 → (y : ℕ) → find true t w es ≡ Some y → add_named p out (last_cell out o x y) (with_nodes (nodes_of ns n) es) ≡ Here (w ∷ rest)
-  unfolding chain_words
-  last_made [] l y e = rw e
-  last_made (v ∷ vs) l y e = absurd (omega arith)
-
--- the last argument, looked up
-module _ (t : List ℕ) (p : Places) (out : Word) (o : Binary) (k x : ℕ) (ns : List ℕ) (n : ℕ) (es : List Entry) (at end : ℕ) (one : length (arguments_from t at end) ≡ 1) where
-  pub last-refused : (e : Refusal) → NotDriven t es at end e → Err e ≡ chain_words t p out o k x (arguments_from t at end) (with_nodes (nodes_of ns n) es)
-  last-refused e w = rw (w.refusal_is, w.first) (last_none t p out o k x w.word ns n es w.rest (omega (arith, one, ap length w.first)) w.none_is)
-
-  pub last-added : (a : Wired) → WiredIs t es at end a → add_named p out (last_cell out o x a.wire) (with_nodes (nodes_of ns n) es) ≡ chain_words t p out o k x (arguments_from t at end) (with_nodes (nodes_of ns n) es)
-  last-added a w = rw w.first (last_made t p out o k x w.word ns n es (arguments_from t a.next end) (omega (arith, one, ap length w.first)) a.wire w.wire_is)
+-- the step's node, as the code adds it, then what is left
+pub step_made : (p : Places) (out : Word) (o : Binary) (k x y z : ℕ) (ys : List ℕ) (ns : List ℕ) (n : ℕ) (es : List Entry) (new : List ℕ) (r : Try ℕ)
+    → outcome (nodes_of new) r ≡ add_node p.nodes (step_cell out o k x y) (nodes_of ns n)
+    → and_then r (λ m. chain p out o (k + 1) (n + 2) (z ∷ ys) (with_nodes (nodes_of new m) es)) ≡ chain p out o k x (y ∷ z ∷ ys) (with_nodes (nodes_of ns n) es)
+step_made p out o k x y z ys ns n es new r q =
+    counted new r (λ (ms : List BoolNode). chain p out o (k + 1) (n + 2) (z ∷ ys) (with_nodes ms es))
+    ∙ ap (λ (a : Try (List BoolNode)). and_then a (λ ms. chain p out o (k + 1) (n + 2) (z ∷ ys) (with_nodes ms es))) q
+    ∙ unfolded
+  where
+    unfolded : and_then (add_node p.nodes (step_cell out o k x y) (nodes_of ns n)) (λ ms. chain p out o (k + 1) (n + 2) (z ∷ ys) (with_nodes ms es)) ≡ chain p out o k x (y ∷ z ∷ ys) (with_nodes (nodes_of ns n) es)
+    unfolded = unfold chain in rw (length_nodes ns n, add-one k)
 
 -- the areas of names and outputs say nothing to a node and its name
 pub same_places : (n m l : ℕ) (out : Word) (x y : BoolNode) (h : Held) → x ≡ y → add_named (places_in n m 0) out x h ≡ add_named (places_in n m l) out y h
@@ -105,71 +83,81 @@ triple_chained p out o x y z ns n es new r q =
     unfolded : and_then (add_node p.nodes (step_cell out o 1 x y) (nodes_of ns n)) (λ ms. add_named p out (last_cell out o (n + 2) z) (with_nodes ms es)) ≡ chain p out o 1 x (y ∷ z ∷ []) (with_nodes (nodes_of ns n) es)
     unfolded = unfold chain in rw (length_nodes ns n)
 
-module _ (t : List ℕ) (es : List Entry) (p : Places) (out : Word) (o : Binary) where
-  abbrev ChainOf : List Word → Type 0
-  ChainOf ws = (k x : ℕ) (ns : List BoolNode) (xs : List ℕ) → input_wires t es ws ≡ Ok xs → chain_words t p out o k x ws (with_nodes ns es) ≡ chain p out o k x xs (with_nodes ns es)
+-- ---- the steps of a gate
 
-  none : ChainOf []
-  unfolding chain_words chain input_wires
-  none k x ns xs e = ap (λ (l : List ℕ). chain p out o k x l (with_nodes ns es)) (yes_same e)
+-- the inputs after the third, as an iterator gives them
+pub skipped_given : (s : Skip Arguments) (a : Arguments) → skip_source s ≡ a → skip_count s ≡ 3 → YieldsList (skip_steps GivesArgument) (λ x. x) s (drop 3 (arguments_left a))
+skipped_given s a e n = subst (λ (b : Arguments). YieldsList (skip_steps GivesArgument) (λ x. x) s (drop 3 (arguments_left b))) e (YieldsList-from_skip 3 (arguments_given (skip_source s)) n)
 
-  one : (w : Word) → ChainOf (w ∷ [])
-  unfolding chain_words chain
-  one w k x ns xs e = go (find true t w es) refl
+some_same : {x y : ℕ} → Some x ≡ Some y → x ≡ y
+some_same q = cc
+
+-- the wires of all inputs, where each has a driver
+abbrev pub wires_in : Try (List ℕ) → List ℕ
+wires_in (Ok xs) = xs
+wires_in (Err e) = []
+
+-- the input whose turn it is after n that came after the third
+pub record Turn (t : List ℕ) (es : List Entry) (q : Plan) (n : ℕ) (argument : Word) : Type 0 where
+  pub wire : ℕ
+  pub is : find true t argument es ≡ Some wire
+  pub left : drop (3 + n) (wires_in (input_wires t es (arguments_left q.arguments))) ≡ wire ∷ drop (3 + (n + 1)) (wires_in (input_wires t es (arguments_left q.arguments)))
+  pub inside : argument.start + argument.len ≤ length t
+  pub few : n + 3 < q.inputs
+
+module _ (t : List ℕ) (es : List Entry) (q : Plan) (d : Driven t es q) where
+  abbrev all : List Word
+  all = arguments_left q.arguments
+
+  pub turn : (n : ℕ) (argument : Word) → (n < length (drop 3 all)) × (argument ≡ get_or (drop 3 all) n argument) → Turn t es q n argument
+  turn n argument h =
+      let few : 3 + n < length all = omega (arith, h.0, length-drop 3 all) in
+      let place : argument ≡ get_or all (3 + n) argument = h.1 ∙ get_or-drop 3 all n argument in
+      let found = driver_at t es argument all d.wires (3 + n) d.are few in
+      let size : 3 + n < length d.wires = omega (arith, few, inputs-length t es all d.wires d.are) in
+      let q' : 3 + n + 1 ≡ 3 + (n + 1) = omega arith in
+      record {
+        wire = get_or d.wires (3 + n) 0;
+        is = ap (λ (w : Word). find true t w es) place ∙ found;
+        left = rw d.are (drop_more d.wires (3 + n) 0 size ∙ ap (λ (m : ℕ). get_or d.wires (3 + n) 0 ∷ drop m d.wires) q');
+        inside = subst (λ (w : Word). w.start + w.len ≤ length t) (sym place) (subst (λ (x : List ℕ). (get_or all (3 + n) argument).start + (get_or all (3 + n) argument).len ≤ length x) d.same_text (argument_inside q.arguments (3 + n) argument few));
+        few = omega (arith, few, d.count_is);
+      }
+
+  -- the wire that the code finds for it
+  pub turn_on : (n : ℕ) (argument : Word) (w : ℕ) → Turn t es q n argument → find true t argument es ≡ Some w
+      → drop (3 + n) (wires_in (input_wires t es (arguments_left q.arguments))) ≡ w ∷ drop (3 + (n + 1)) (wires_in (input_wires t es (arguments_left q.arguments)))
+  turn_on n argument w u f =
+      let z : u.wire ≡ w = some_same (sym u.is ∙ f) in
+      u.left ∙ ap (λ (x : ℕ). x ∷ drop (3 + (n + 1)) (wires_in (input_wires t es (arguments_left q.arguments)))) z
+
+  pub turn_found : (n : ℕ) (argument : Word) → Turn t es q n argument → find true t argument es ≡ None → ⊥
+  turn_found n argument u f = none-some u.wire (sym f ∙ u.is)
+
+  pub all_wires : {B : Type 0} (f : List ℕ → Try B) → f (wires_in (input_wires t es (arguments_left q.arguments))) ≡ and_then (input_wires t es (arguments_left q.arguments)) f
+  all_wires f = rw d.are
+
+  -- no input is left
+  pub turns-end : (n : ℕ) → n ≡ length (drop 3 all) → drop (3 + n) (wires_in (input_wires t es all)) ≡ []
+  turns-end n h = rw d.are (drop_of_length-le d.wires (omega (arith, h, length-drop 3 all, inputs-length t es all d.wires d.are)))
+
+module _ (t : List ℕ) (es : List Entry) (q : Plan) (d : Driven t es q) (three : 3 ≤ q.inputs) (p : Places) (o : Binary) (ns : List BoolNode) where
+  abbrev All : List ℕ
+  All = wires_in (input_wires t es (arguments_left q.arguments))
+
+  -- what the wires of a gate give, from the first three on
+  pub steps_start : chain p q.out o 1 (get_or q.wires 0 0) (get_or q.wires 1 0 ∷ get_or q.wires 2 0 ∷ drop 3 All) (with_nodes ns es)
+      ≡ and_then (input_wires t es (arguments_left q.arguments)) (λ xs. chained p q.out o xs (with_nodes ns es))
+  unfolding chained
+  steps_start = rw (d.are, d.firsts) (go d.wires (omega (arith, three, d.count_is, inputs-length t es (arguments_left q.arguments) d.wires d.are)))
     where
-      go : (f : (Option ℕ)) → find true t w es ≡ f → chain_words t p out o k x (w ∷ []) (with_nodes ns es) ≡ chain p out o k x xs (with_nodes ns es)
-      go None q = absurd (no_yes (inputs-none t es (w ∷ []) w [] refl q ∙ e))
-      go (Some y) q =
-          let r = inputs_rest t es (w ∷ []) w [] refl y q xs e in
-          rw (q, r.all_are, empty r.wires (inputs-length t es [] r.wires r.are))
-        where
-          empty : (l : List ℕ) → length l ≡ 0 → l ≡ []
-          empty [] z = refl
-          empty (a ∷ l) z = absurd (omega arith)
+      go : (xs : List ℕ) → 3 ≤ length xs → chain p q.out o 1 (get_or xs 0 0) (get_or xs 1 0 ∷ get_or xs 2 0 ∷ drop 3 xs) (with_nodes ns es) ≡ chained p q.out o xs (with_nodes ns es)
+      go [] l = absurd (omega arith)
+      go (x ∷ []) l = absurd (omega arith)
+      go (x ∷ y ∷ []) l = absurd (omega arith)
+      go (x ∷ y ∷ z ∷ zs) l = refl
 
-  more : (w v : Word) (vs : List Word) → ChainOf (v ∷ vs) → ChainOf (w ∷ v ∷ vs)
-  more w v vs ih k x ns xs e = go (find true t w es) refl
-    where
-      step : (y : ℕ) → find true t w es ≡ Some y → (ys : List ℕ) → input_wires t es (v ∷ vs) ≡ Ok ys → chain_words t p out o k x (w ∷ v ∷ vs) (with_nodes ns es) ≡ chain p out o k x (y ∷ ys) (with_nodes ns es)
-      step y q [] a = absurd (omega (arith, inputs-length t es (v ∷ vs) [] a))
-      step y q (z ∷ zs) a = unfold chain_words chain in rw q (added (add_node p.nodes (step_cell out o k x y) ns))
-        where
-          added : (r : Try (List BoolNode)) → and_then r (λ ms. chain_words t p out o (suc k) (length ns + 2) (v ∷ vs) (with_nodes ms es)) ≡ and_then r (λ ms. chain p out o (suc k) (length ns + 2) (z ∷ zs) (with_nodes ms es))
-          added (Err f) = refl
-          added (Ok ms) = ih (suc k) (length ns + 2) ms (z ∷ zs) a
-
-      go : (f : (Option ℕ)) → find true t w es ≡ f → chain_words t p out o k x (w ∷ v ∷ vs) (with_nodes ns es) ≡ chain p out o k x xs (with_nodes ns es)
-      go None q = absurd (no_yes (inputs-none t es (w ∷ v ∷ vs) w (v ∷ vs) refl q ∙ e))
-      go (Some y) q =
-          let r = inputs_rest t es (w ∷ v ∷ vs) w (v ∷ vs) refl y q xs e in
-          rw r.all_are (step y q r.wires r.are)
-
-  -- where every input has a driver, looking the wires up as they come makes the same chain
-  pub chain-words : (ws : List Word) → ChainOf ws
-  chain-words [] = none
-  chain-words (w ∷ []) = one w
-  chain-words (w ∷ v ∷ vs) = more w v vs (chain-words (v ∷ vs))
-
--- ---- a walk along the chain
-
-module _ (t : List ℕ) (es : List Entry) (out : Word) (o : Binary) (end words k : ℕ) (old : List ℕ) (c : Chained) where
-  pub walk_start : NodesKept old c.nodes → ChainedIs t es out o end words k old c k old (Ok c)
-  walk_start h = record { is = λ m l. refl; kept = h; kept_refused = tt }
-
-  -- a walk goes on where another stands
-  pub walk_on : (k' : ℕ) (mid : List ℕ) (d : Chained) → ChainedIs t es out o end words k old c k' mid (Ok d)
-      → (k'' : ℕ) (new : List ℕ) (r : Try Chained) → ChainedIs t es out o end words k' mid d k'' new r → ChainedIs t es out o end words k old c k'' new r
-  walk_on k' mid d a k'' new r b = record { is = λ m l. b.is m l ∙ a.is m l; kept = b.kept; kept_refused = b.kept_refused }
-
-  -- a step of the chain whose next argument has no driver
-  pub walk-stop : (e : Refusal) → NotDriven t es c.at end e → 2 ≤ length (arguments_from t c.at end) → NodesKept old c.nodes → ChainedIs t es out o end words k old c (k + 1) old (Err e)
-  walk-stop e w l h = record { is = λ m' l'. is m' l'; kept = tt; kept_refused = (c.nodes, h) }
-    where
-      is : (m' l' : ℕ) → Err e ≡ rest_of t es out o end (places_in words m' l') k old c
-      is m' l' = rw (w.refusal_is, w.first) (step-none t (places_in words m' l') out o k c.signal w.word old c.nodes es w.rest (omega (arith, ap length w.first)) w.none_is)
-
-  -- a step of the chain, as the code adds its node
-  pub walk_step : (a : Wired) → WiredIs t es c.at end a → 2 ≤ length (arguments_from t c.at end) → (new : List ℕ) (r : Try ℕ)
-      → outcome (nodes_of new) r ≡ add_node (capacity 9 words) (step_cell out o k c.signal a.wire) (nodes_of old c.nodes)
-      → (m l : ℕ) → and_then r (λ n. rest_of t es out o end (places_in words m l) (k + 1) new (record { nodes = n; signal = c.nodes + 2; at = a.next })) ≡ rest_of t es out o end (places_in words m l) k old c
-  walk_step a w two new r q m l = rw w.first (step_made t (places_in words m l) out o k c.signal w.word old c.nodes es (arguments_from t a.next end) (omega (arith, ap length w.first)) a.wire w.wire_is new r q)
+-- the last cell is what is left of a chain when no wire comes after those at hand
+pub last_made : (p : Places) (out : Word) (o : Binary) (es : List Entry) (ns : List ℕ) (c : Chained) → add_named p out (last_cell out o c.signal c.next) (with_nodes (nodes_of ns c.nodes) es) ≡ rest_of es out o p ns c []
+unfolding chain
+last_made p out o es ns c = refl

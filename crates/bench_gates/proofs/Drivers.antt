@@ -1,20 +1,21 @@
 -- Whether each input has a driver.
 -- Assumes nothing.
 use Rattle.std.specs.Prelude.{Err, None, Ok, Option, Some}
-use Prim.Native.Nat.{ℕ, suc, ◌+◌, ◌≤◌, ◌<◌}
+use Prim.Native.Nat.{ℕ, zero, suc, ◌+◌, ◌≤◌, ◌<◌}
 use mathlib.Core.Path.{◌≡◌, refl, sym, ap, ◌∙◌}
 use mathlib.Core.Bool.{true}
 use mathlib.Core.List.{List, [], ◌∷◌, ◌++◌, append_assoc, append-nil}
+use native.Mathlib.Nat.{not-suc-le-zero}
 use native.Mathlib.Omega.{arith}
-use lib.ListN.{length, set, length-append}
+use lib.ListN.{length, get_or, set, length-append}
 use Rattle.circuit.specs.declared.refusals.Refusal.{Refusal}
 use Rattle.circuit.specs.declared.refusals.Refusal.TheVariants.{NoDriver}
 use Rattle.circuit.specs.Refusals.{Try, and_then}
 use Rattle.text.specs.declared.words.Word.{Word}
 use Rattle.names.specs.Names.{Entry}
-use Rattle.reading.specs.Reading.{find}
+use Rattle.reading.specs.Reading.{find, driver}
 use Rattle.reading.specs.Holding.{outcome}
-use Rattle.bench_invocations.specs.Walks.{arguments_from}
+use Rattle.bench_invocations.specs.Walks.{arguments_left}
 use Rattle.bench_gates.specs.Gates.{input_wires}
 use Rattle.bench_gates.specs.declared.plans.Plan.{Plan}
 use Rattle.bench_gates.specs.Walks.{first_three, Driven}
@@ -26,6 +27,18 @@ no_yes q = cc
 
 pub yes_same : {A : Type 0} {a b : A} → ◌≡◌ {A = Try A} (Ok a) (Ok b) → a ≡ b
 yes_same q = cc
+
+pub driver_none : (f : Option ℕ) (e : Refusal) → Err e ≡ driver f → (f ≡ None) × (e ≡ NoDriver)
+driver_none None e q =
+    let z : e ≡ NoDriver = cc in
+    (refl, z)
+driver_none (Some x) e q = absurd (cc)
+
+pub driver_some : (f : Option ℕ) (x : ℕ) → Ok x ≡ driver f → f ≡ Some x
+driver_some None x q = absurd (cc)
+driver_some (Some y) x q =
+    let z : y ≡ x = cc in
+    ap Some z
 
 module _ (t : List ℕ) (es : List Entry) where
   module _ (all : List Word) (w : Word) (rest : List Word) (e : all ≡ w ∷ rest) where
@@ -65,12 +78,28 @@ module _ (t : List ℕ) (es : List Entry) where
           ap length r.all_are ∙ ap suc (ih r.wires r.are)
 
 -- the wires of the first three inputs say that each input of a plan has a driver
-pub driven : (t : List ℕ) (es : List Entry) (p : Plan) → Ok p.wires ≡ outcome first_three (input_wires t es (arguments_from t p.from p.end)) → p.inputs ≡ length (arguments_from t p.from p.end) → Driven t es p
-driven t es p q e = go (input_wires t es (arguments_from t p.from p.end)) refl q
+pub driven : (t : List ℕ) (es : List Entry) (p : Plan) → p.arguments.text.now ≡ t → Ok p.wires ≡ outcome first_three (input_wires t es (arguments_left p.arguments)) → p.inputs ≡ length (arguments_left p.arguments) → Driven t es p
+driven t es p st q e = go (input_wires t es (arguments_left p.arguments)) refl q
   where
-    go : (r : Try (List ℕ)) → input_wires t es (arguments_from t p.from p.end) ≡ r → Ok p.wires ≡ outcome first_three r → Driven t es p
+    go : (r : Try (List ℕ)) → input_wires t es (arguments_left p.arguments) ≡ r → Ok p.wires ≡ outcome first_three r → Driven t es p
     go (Err f) s h = absurd (no_yes (sym h))
-    go (Ok xs) s h = record { wires = xs; are = s; count_is = e; firsts = yes_same h }
+    go (Ok xs) s h = record { wires = xs; are = s; count_is = e; firsts = yes_same h; same_text = st }
+
+-- the wire of an input by its place
+module _ (t : List ℕ) (es : List Entry) (d : Word) where
+  pub driver_at : (ws : List Word) (xs : List ℕ) (i : ℕ) → input_wires t es ws ≡ Ok xs → i < length ws → find true t (get_or ws i d) es ≡ Some (get_or xs i 0)
+  driver_at [] xs i p h = absurd (not-suc-le-zero h)
+  driver_at (w ∷ ws) xs i p h = go (find true t w es) refl i h (λ ys j q k. driver_at ws ys j q k)
+    where
+      go : (f : Option ℕ) → find true t w es ≡ f → (i : ℕ) → i < length (w ∷ ws) → ((ys : List ℕ) (j : ℕ) → input_wires t es ws ≡ Ok ys → j < length ws → find true t (get_or ws j d) es ≡ Some (get_or ys j 0))
+          → find true t (get_or (w ∷ ws) i d) es ≡ Some (get_or xs i 0)
+      go None q i k ih = absurd (no_yes (inputs-none t es (w ∷ ws) w ws refl q ∙ p))
+      go (Some x) q zero k ih =
+          let r = inputs_rest t es (w ∷ ws) w ws refl x q xs p in
+          q ∙ ap (λ (l : List ℕ). Some (get_or l 0 0)) (sym r.all_are)
+      go (Some x) q (suc j) k ih =
+          let r = inputs_rest t es (w ∷ ws) w ws refl x q xs p in
+          ih r.wires j r.are (omega arith) ∙ ap (λ (l : List ℕ). Some (get_or l (suc j) 0)) (sym r.all_are)
 
 -- ---- a walk over the inputs: the wires so far
 

@@ -7,22 +7,19 @@ use mathlib.Core.List.{List, [], ◌∷◌}
 use native.Mathlib.Omega.{arith}
 use lib.ListN.{length, get_or, take}
 use borrow.Author.Tests.{ne_eqb}
-use Rattle.circuit.specs.declared.refusals.Refusal.{Refusal}
 use Rattle.circuit.specs.declared.refusals.Refusal.TheVariants.{WrongCount, Unknown}
 use Rattle.circuit.specs.declared.records.BoolNode.{BoolNode}
 use Rattle.circuit.specs.Refusals.{Try, and_then}
 use Rattle.text.specs.declared.words.Word.{Word}
 use Rattle.names.specs.Names.{Entry}
 use Rattle.reading.specs.Reading.{Places, Held, add_name, with_names, add_alias, add_named}
-use Rattle.bench_invocations.specs.Walks.{arguments_from}
+use Rattle.bench_invocations.specs.Walks.{arguments_left}
 use Rattle.bench_gates.specs.declared.operations.Operation.TheVariants.{Buf, Not, Chain, Other}
 use Rattle.bench_gates.specs.declared.operations.Binary.{Binary}
-use Rattle.bench_gates.specs.declared.inputs.Wired.{Wired}
 use Rattle.bench_gates.specs.declared.plans.Plan.{Plan}
 use Rattle.bench_gates.specs.Gates.{input_wires, only_one, inverter, last_cell, with_nodes, chain, chained, lower_gate}
-use Rattle.bench_gates.specs.Walks.{WiredIs, NotDriven, first_three, Driven, if_one, chain_words}
-use Rattle.bench_gates.proofs.Drivers.{inputs-none, inputs_rest, inputs-length}
-use Rattle.bench_gates.proofs.Chaining.{chain-words}
+use Rattle.bench_gates.specs.Walks.{first_three, Driven, if_one}
+use Rattle.bench_gates.proofs.Drivers.{inputs-length}
 
 -- at most three wires are all kept
 all_kept : (xs : List ℕ) → length xs ≤ 3 → take (length xs) (first_three xs) ≡ xs
@@ -46,11 +43,11 @@ buffer p out h (x ∷ y ∷ ys) = refl
 
 module _ (t : List ℕ) (es : List Entry) (q : Plan) (d : Driven t es q) where
   number : length d.wires ≡ q.inputs
-  number = inputs-length t es (arguments_from t q.from q.end) d.wires d.are ∙ sym d.count_is
+  number = inputs-length t es (arguments_left q.arguments) d.wires d.are ∙ sym d.count_is
 
   -- what is tried with the wires of all inputs
   abbrev With : {B : Type 0} → (List ℕ → Try B) → Try B
-  With f = and_then (input_wires t es (arguments_from t q.from q.end)) f
+  With f = and_then (input_wires t es (arguments_left q.arguments)) f
 
   -- what one input gives, by its kept wire
   pub one_kept : {B : Type 0} (f : ℕ → Try B) → if_one q.inputs (f (get_or q.wires 0 0)) ≡ With (λ xs. and_then (only_one xs) f)
@@ -84,14 +81,9 @@ module _ (t : List ℕ) (es : List Entry) (q : Plan) (d : Driven t es q) where
       pub too_few : q.inputs < 2 → Err WrongCount ≡ Chained
       too_few l = rw d.are (few p q.out o (with_nodes ns es) d.wires (omega (arith, number)))
 
-      pub no_driver : (e : Refusal) → NotDriven t es q.from q.end e → Err e ≡ Chained
-      no_driver e w = rw (w.refusal_is, ← inputs-none t es (arguments_from t q.from q.end) w.word w.rest w.first w.none_is)
-
-      pub chain_made : (a : Wired) → WiredIs t es q.from q.end a → chain_words t p q.out o 1 a.wire (arguments_from t a.next q.end) (with_nodes ns es) ≡ Chained
-      unfolding lower_gate chained
-      chain_made a w =
-          let r = inputs_rest t es (arguments_from t q.from q.end) w.word (arguments_from t a.next q.end) w.first a.wire w.wire_is d.wires d.are in
-          rw (d.are, r.all_are) (chain-words t es p q.out o (arguments_from t a.next q.end) 1 a.wire ns r.wires r.are)
+      pub many_made : q.operation ≡ Chain o → (r : Try Held) → r ≡ With (λ xs. chained p q.out o xs (with_nodes ns es)) → r ≡ Gate
+      unfolding lower_gate
+      many_made b r e = rw b e
 
       -- a gate of at most three inputs is the chain of the kept wires
       kept_made : q.inputs ≤ 3 → chained p q.out o (take q.inputs q.wires) (with_nodes ns es) ≡ Chained

@@ -1,13 +1,12 @@
 // A chained gate: all its cells but the last.
-ghost use Rattle.std.specs.Prelude.{◌≡◌, ◌+◌, ◌-◌, ◌≤◌, ◌<◌, ◌^◌, length, IfOk, OnErr};
+ghost use Rattle.std.specs.Prelude.{◌≡◌, ◌+◌, ◌≤◌, ◌<◌, ◌^◌, List, ℕ, [], ◌∷◌, length, IfOk, OnErr};
 ghost use Rattle.laws.specs.Areas.{capacity};
 ghost use Rattle.circuit.specs.Records.{wire_word, nodes_of};
 ghost use Rattle.names.specs.Chains.{entries};
 ghost use Rattle.reading.specs.Reading.{add_node};
 ghost use Rattle.reading.specs.Holding.{outcome, NodesKept};
 ghost use Rattle.bench_gates.specs.Gates.{cell, step_cell};
-ghost use Rattle.bench_invocations.specs.Walks.{arguments_from};
-ghost use Rattle.bench_gates.specs.Walks.{ChainedIs};
+ghost use Rattle.bench_gates.specs.Walks.{Driven, StepIs, StepsAre};
 
 use crate::inputs::argument_wire;
 use crate::operations::Binary;
@@ -57,61 +56,61 @@ pub fn push_bench_lut(
     add_node(bench_lut(name, 2, table, x, y), count, nodes)
 }
 
-// How far a chain is made: the nodes, the wire of what is chained, and where the next argument starts.
+// How far a chain is made: the nodes, the step that comes next, and the two wires that it takes.
 #[derive(Clone, Copy)]
 pub struct Chained {
     pub nodes: usize,
+    pub step: usize,
     pub signal: usize,
-    pub at: usize,
+    pub next: usize,
 }
 
-// A step before the last.
+// The next step, which is not the last since a wire comes after those that it takes.
 pub fn chain_step(
-    table: &NameTable,
-    plan: Plan,
+    out: Word,
     operation: Binary,
-    step: usize,
     chained: Chained,
+    after: usize,
     nodes: &mut [usize],
 ) -> Result<Chained, Refusal>
     requires nodes_kept { NodesKept nodes.old chained.nodes }
-    requires at_le_end { (chained.at ≤ plan.end) × (plan.end ≤ length table.now.text.now) × (2 ≤ length (arguments_from table.now.text.now chained.at plan.end)) }
-    ensures chained_is { ChainedIs table.now.text.now (entries table.now.names.now table.now.count) plan.out operation plan.end (length nodes.old) step nodes.old chained (step + 1) nodes.new result }
-    ensures end_len { IfOk result (λ c. (length (arguments_from table.now.text.now chained.at plan.end) ≡ length (arguments_from table.now.text.now c.at plan.end) + 1) × (c.at ≤ plan.end + 1)) }
+    requires step_bound { chained.step + 1 < 2 ^ 64 }
+    ensures { StepIs out operation (length nodes.old) nodes.old chained after nodes.new result }
 {
-    let argument = argument_wire(table, chained.at, plan.end)?;
     let made = push_bench_lut(
-        plan.out,
+        out,
         operation,
-        step,
+        chained.step,
         chained.signal,
-        argument.wire,
+        chained.next,
         chained.nodes,
         nodes,
     )?;
     Ok(Chained {
         nodes: made,
+        step: chained.step + 1,
         signal: chained.nodes + 2,
-        at: argument.next,
+        next: after,
     })
 }
 
-// All steps before the last, of a gate of which the first input is chained.
+// The steps that the inputs after the third add.
 pub fn chain_steps(
     table: &NameTable,
     plan: Plan,
     operation: Binary,
-    first: Chained,
+    second: Chained,
     nodes: &mut [usize],
 ) -> Result<Chained, Refusal>
-    requires nodes_kept { NodesKept nodes.old first.nodes }
-    requires at_bound { (first.at ≤ plan.end + 1) × (plan.end ≤ length table.now.text.now) × (plan.inputs ≡ length (arguments_from table.now.text.now first.at plan.end) + 1) × (2 ≤ plan.inputs) }
-    ensures chained_is { ChainedIs table.now.text.now (entries table.now.names.now table.now.count) plan.out operation plan.end (length nodes.old) 1 nodes.old first (plan.inputs - 1) nodes.new result }
-    ensures end_len { IfOk result (λ c. (length (arguments_from table.now.text.now c.at plan.end) ≡ 1) × (c.at ≤ plan.end + 1)) }
+    requires nodes_kept { NodesKept nodes.old second.nodes }
+    requires driven { Driven table.now.text.now (entries table.now.names.now table.now.count) plan }
+    requires second { second.step ≡ 2 }
+    ensures { StepsAre table.now.text.now (entries table.now.names.now table.now.count) plan.entry operation (length nodes.old) nodes.old second nodes.new result }
 {
-    let mut chained = first;
-    for step in 1..plan.inputs - 1 {
-        chained = chain_step(table, plan, operation, step, chained, nodes)?;
+    let mut chained = second;
+    for argument in plan.arguments.skip(3) {
+        let wire = argument_wire(table, argument)?;
+        chained = chain_step(plan.out, operation, chained, wire, nodes)?;
     }
     Ok(chained)
 }

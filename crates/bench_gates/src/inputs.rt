@@ -1,55 +1,52 @@
 // The inputs of a gate: the wires of its arguments, one after the other.
-ghost use Rattle.std.specs.Prelude.{◌≡◌, ◌≤◌, length, IfOk, IfErr};
+ghost use Rattle.std.specs.Prelude.{◌≡◌, true, ◌+◌, ◌≤◌, length};
 ghost use Rattle.names.specs.Chains.{entries};
+ghost use Rattle.reading.specs.Reading.{find, driver};
 ghost use Rattle.reading.specs.Holding.{outcome};
-ghost use Rattle.bench_invocations.specs.Walks.{arguments_from};
+ghost use Rattle.bench_invocations.specs.Walks.{arguments_left};
 ghost use Rattle.bench_gates.specs.Gates.{input_wires};
-ghost use Rattle.bench_gates.specs.Walks.{WiredIs, NotDriven, first_three};
+ghost use Rattle.bench_gates.specs.Walks.{first_three};
 
-use bench_invocations::arguments::next_argument;
+use bench_invocations::arguments::Arguments;
 use circuit::refusals::Refusal;
 use names::NameTable;
-use reading::records::find_wire;
+use text::words::Word;
 
-// The wire of an argument, and where the next one starts.
-#[derive(Clone, Copy)]
-pub struct Wired {
-    pub wire: usize,
-    pub next: usize,
+// The wire's word of a name: `FALSE` and `TRUE` are defined first.
+#[tactic(auto, using(text::proofs::ByteLaws::same_pointwise), unfolding(reading::specs::Reading::find, laws::specs::Stretches::stretch))]
+pub fn find_wire(table: &NameTable, word: Word) -> Option<usize>
+    requires { word.start + word.len ≤ length table.now.text.now }
+    ensures { result ≡ find true table.now.text.now word (entries table.now.names.now table.now.count) }
+{
+    let name = word.bytes(table.text);
+    if name == b"FALSE".as_slice() {
+        Some(0)
+    } else if name == b"TRUE".as_slice() {
+        Some(1)
+    } else {
+        table.find(word)
+    }
 }
 
-// The next argument, or 5 if it has no driver.
-pub fn argument_wire(table: &NameTable, at: usize, end: usize) -> Result<Wired, Refusal>
-    requires at_le_end { (at ≤ end) × (end ≤ length table.now.text.now) }
-    ensures wired { IfOk result (λ w. WiredIs table.now.text.now (entries table.now.names.now table.now.count) at end w) }
-    ensures not_driven { IfErr result (λ e. NotDriven table.now.text.now (entries table.now.names.now table.now.count) at end e) }
+// The wire of an argument, or 5 if it has no driver.
+pub fn argument_wire(table: &NameTable, argument: Word) -> Result<usize, Refusal>
+    requires { argument.start + argument.len ≤ length table.now.text.now }
+    ensures { result ≡ driver (find true table.now.text.now argument (entries table.now.names.now table.now.count)) }
 {
-    let argument = next_argument(table.text, at, end);
-    let Some(wire) = find_wire(table, argument.word, true) else {
-        return Err(Refusal::NoDriver);
-    };
-    Ok(Wired {
-        wire,
-        next: argument.next,
-    })
+    find_wire(table, argument).ok_or(Refusal::NoDriver)
 }
 
 // The wires of the first three inputs (0 where there is none), from which a gate of two or three is made; 5 at the first input without a driver.
-pub fn input_wires(table: &NameTable, from: usize, end: usize) -> Result<[usize; 3], Refusal>
-    requires end_in_bounds { end ≤ length table.now.text.now }
-    ensures { result ≡ outcome first_three (input_wires table.now.text.now (entries table.now.names.now table.now.count) (arguments_from table.now.text.now from end)) }
+pub fn input_wires(table: &NameTable, arguments: Arguments) -> Result<[usize; 3], Refusal>
+    requires same_text { arguments.text.now ≡ table.now.text.now }
+    ensures { result ≡ outcome first_three (input_wires table.now.text.now (entries table.now.names.now table.now.count) (arguments_left arguments.entry)) }
 {
     let mut wires = [0; 3];
-    let mut n = 0;
-    let mut at = from;
-    // No range: each argument says where the next one starts.
-    while at <= end {
-        let argument = argument_wire(table, at, end)?;
+    for (n, argument) in arguments.enumerate() {
+        let wire = argument_wire(table, argument)?;
         if n < 3 {
-            wires[n] = argument.wire;
+            wires[n] = wire;
         }
-        n += 1;
-        at = argument.next;
     }
     Ok(wires)
 }

@@ -1,10 +1,8 @@
 // The operations of BENCH.
-ghost use Rattle.std.specs.Prelude.{◌≡◌, ◌+◌, ◌≤◌, length};
-ghost use Rattle.text.specs.Words.{bytes_of};
+ghost use Rattle.std.specs.Prelude.{◌≡◌};
 ghost use Rattle.bench_gates.specs.Operations.{binary_of, operation_of, truth_table, associative};
 
 use text::bytes::is_named;
-use text::words::Word;
 
 // The operations of two or more inputs.
 #[derive(Clone, Copy, Debug, PartialEq, Eq)]
@@ -53,21 +51,20 @@ pub enum Operation {
 
 // The letters may be in any case, so they are compared one name after the other, not by a `match` on the bytes.
 #[tactic(auto, unfolding(crate::specs::Operations::binary_of))]
-pub fn binary_of(text: &[u8], word: Word) -> Operation
-    requires { word.start + word.len ≤ length text.now }
-    ensures { result ≡ binary_of (bytes_of text.now word) }
+pub fn binary_of(bytes: &[u8]) -> Operation
+    ensures { result ≡ binary_of bytes.now }
 {
-    if is_named(text, word, b"AND") {
+    if is_named(bytes, b"AND") {
         Operation::Chain(Binary::And)
-    } else if is_named(text, word, b"NAND") {
+    } else if is_named(bytes, b"NAND") {
         Operation::Chain(Binary::Nand)
-    } else if is_named(text, word, b"OR") {
+    } else if is_named(bytes, b"OR") {
         Operation::Chain(Binary::Or)
-    } else if is_named(text, word, b"NOR") {
+    } else if is_named(bytes, b"NOR") {
         Operation::Chain(Binary::Nor)
-    } else if is_named(text, word, b"XOR") {
+    } else if is_named(bytes, b"XOR") {
         Operation::Chain(Binary::Xor)
-    } else if is_named(text, word, b"XNOR") {
+    } else if is_named(bytes, b"XNOR") {
         Operation::Chain(Binary::Xnor)
     } else {
         Operation::Other
@@ -75,15 +72,14 @@ pub fn binary_of(text: &[u8], word: Word) -> Operation
 }
 
 #[tactic(auto, unfolding(crate::specs::Operations::operation_of))]
-pub fn operation_of(text: &[u8], word: Word) -> Operation
-    requires { word.start + word.len ≤ length text.now }
-    ensures { result ≡ operation_of (bytes_of text.now word) }
+pub fn operation_of(bytes: &[u8]) -> Operation
+    ensures { result ≡ operation_of bytes.now }
 {
-    if is_named(text, word, b"BUFF") || is_named(text, word, b"BUF") {
+    if is_named(bytes, b"BUFF") || is_named(bytes, b"BUF") {
         Operation::Buf
-    } else if is_named(text, word, b"NOT") || is_named(text, word, b"INV") {
+    } else if is_named(bytes, b"NOT") || is_named(bytes, b"INV") {
         Operation::Not
     } else {
-        binary_of(text, word)
+        binary_of(bytes)
     }
 }

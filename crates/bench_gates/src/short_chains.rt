@@ -6,9 +6,8 @@ ghost use Rattle.bench_gates.specs.Gates.{last_cell, chain};
 
 use crate::chains::{bench_lut, push_bench_lut};
 use crate::operations::Binary;
-use circuit::records::Name;
 use circuit::refusals::Refusal;
-use reading::records::{Counts, add_named};
+use reading::records::{Counts, add_named, stretch_name};
 use text::words::Word;
 
 // A cell of two wires with the gate's name: the last of a chain, or all of it.
@@ -29,11 +28,7 @@ pub fn chain_pair(
     ensures kept_refused { OnErr result (KeptForSome text.now heads.new nodes.new names.new) }
     ensures by_index { (l : ℕ) → outcome (λ c. held_of nodes.new names.new c) result ≡ add_named (places_in (length nodes.old) (length names.old) l) out (last_cell out operation x y) (held_of nodes.old names.old counts) }
 {
-    let name = Name::Stretch {
-        start: out.start,
-        len: out.len,
-    };
-    let node = bench_lut(name, 2, operation.truth_table(), x, y);
+    let node = bench_lut(stretch_name(out), 2, operation.truth_table(), x, y);
     add_named(text, out, node, counts, heads, nodes, names)
 }
 

@@ -1,109 +1,118 @@
 -- The tests of an invocation, in the code's order.
 -- Assumes nothing.
-use Rattle.std.specs.Prelude.{Err, Ok}
+use Rattle.std.specs.Prelude.{Err, None, Some}
 use Prim.Native.Nat.{ℕ, ◌+◌, ◌-◌, ◌≤◌, ◌<◌}
 use mathlib.Core.Path.{◌≡◌, refl, sym, ap, ◌∙◌}
 use mathlib.Core.Bool.{Bool, true, false}
-use mathlib.Core.List.{List, []}
+use mathlib.Core.List.{List}
 use native.Mathlib.Omega.{arith}
-use lib.ListN.{length}
+use lib.Dec.{ltb}
 use borrow.Author.Tests.{lt-ltb, le-ltb, eq-eqb, ne_eqb}
+use Rattle.laws.specs.Stretches.{run, is_not}
+use Rattle.laws.proofs.Stretches.{length-stretch_le}
 use Rattle.circuit.specs.declared.refusals.Refusal.{Refusal}
 use Rattle.circuit.specs.declared.refusals.Refusal.TheVariants.{Malformed}
 use Rattle.circuit.specs.Refusals.{Try, need}
-use Rattle.laws.specs.Stretches.{stretch, run, is_not}
 use Rattle.text.specs.Blanks.{trimmed}
+use Rattle.text.specs.Bytes.{first_place}
+use Rattle.text.specs.Words.{bytes_of, between}
 use Rattle.text.specs.declared.words.Word.{Word}
 use Rattle.bench_invocations.specs.declared.invocation.Invocation.{Invocation}
-use Rattle.bench_invocations.specs.Invocations.{Invoked, between, arguments_of, none_empty, up_to_last, invocation, parse_invocation}
-use Rattle.bench_invocations.specs.Walks.{arguments_from, counted, InvokedIs, InvocationIs}
-use Rattle.bench_invocations.proofs.Parts.{arguments_over, arguments_here}
-
-no_yes : {A : Type 0} {e : Refusal} {a : A} → Err e ≡ Ok a → ⊥
-no_yes q = let z : ◌≡◌ {A = ℕ} 0 1 = cc in omega arith
-
-abbrev with : Word → List Word → Invoked
-with o ws = record { operation = o; arguments = ws }
+use Rattle.bench_invocations.specs.Invocations.{Invoked, trimmed_parts, arguments_of, up_to_last, invocation, parse_invocation}
+use Rattle.bench_invocations.specs.Walks.{last_place, arguments_from, InvokedIs, InvocationIs}
+use Rattle.bench_invocations.proofs.Parts.{last-short, no_place, place_found, arguments_over, arguments_here}
 
 pub malformed : (t : List ℕ) (e : Refusal) (i : Try Invoked) → Err e ≡ i → InvocationIs t (Err e) i
 malformed t e i q = record { is = q; noted = tt }
 
--- ---- the arguments between the parentheses
+-- ---- the arguments in a stretch
 
-module _ (t : List ℕ) (operation : Word) (from end : ℕ) (fe : from ≤ end) (el : end ≤ length t) (ol : operation.start + operation.len ≤ length t)
-    (w : Word) (ew : w ≡ trimmed t (between from end)) where
-  none_of : w.len ≡ 0 → arguments_of t (between from end) ≡ []
+module _ (t : List ℕ) (w v : Word) (e : v ≡ trimmed t w) where
+  pub none_of : v.len ≡ 0 → arguments_from t (w.start + w.len + 1) (w.start + w.len) ≡ arguments_of t w
   unfolding arguments_of
-  none_of z = rw (eq-eqb _ 0 (ap (λ (x : Word). x.len) (sym ew) ∙ z))
+  none_of z = rw (eq-eqb _ 0 (ap (λ (x : Word). x.len) (sym e) ∙ z)) (arguments_over t _ _ (omega arith))
 
-  some_of : (w.len ≡ 0 → ⊥) → arguments_of t (between from end) ≡ arguments_from t from end
+  pub some_of : (v.len ≡ 0 → ⊥) → arguments_from t w.start (w.start + w.len) ≡ arguments_of t w
   unfolding arguments_of
-  some_of nz = rw (ne_eqb (trimmed t (between from end)).len 0 (λ q. nz (ap (λ (x : Word). x.len) ew ∙ q))) (sym (arguments_here t from end fe))
-
-  pub arguments_none : w.len ≡ 0 → InvokedIs t operation from end (Ok (record { operation = operation; from = end + 1; end = end; count = 0 }))
-  arguments_none z =
-      let over : arguments_from t (end + 1) end ≡ [] = arguments_over t (end + 1) end (omega arith) in
-      record { is = rw (over, none_of z) empty; noted = record { inside = ol; reach = el; count_is = rw over } }
-    where
-      empty : Ok (with operation []) ≡ need (none_empty []) Malformed (Ok (with operation []))
-      empty = unfold none_empty in refl
-
-  pub arguments_bad : (w.len ≡ 0 → ⊥) → (e : Refusal) → Err e ≡ counted (arguments_from t from end) 0 → InvokedIs t operation from end (Err e)
-  arguments_bad nz e q = record { is = rw (some_of nz) (go (none_empty (arguments_from t from end)) q); noted = tt }
-    where
-      go : (b : Bool) → Err e ≡ need b Malformed (Ok (0 + length (arguments_from t from end))) → Err e ≡ need b Malformed (Ok (with operation (arguments_from t from end)))
-      go true h = absurd (no_yes h)
-      go false h = let z : e ≡ Malformed = cc in ap Err z
-
-  pub arguments_counted : (w.len ≡ 0 → ⊥) → (n : ℕ) → Ok n ≡ counted (arguments_from t from end) 0
-      → InvokedIs t operation from end (Ok (record { operation = operation; from = from; end = end; count = n }))
-  arguments_counted nz n q =
-      record { is = rw (some_of nz) (made (none_empty (arguments_from t from end)) q); noted = record { inside = ol; reach = el; count_is = count (none_empty (arguments_from t from end)) q } }
-    where
-      made : (b : Bool) → Ok n ≡ need b Malformed (Ok (0 + length (arguments_from t from end)))
-          → Ok (with operation (arguments_from t from end)) ≡ need b Malformed (Ok (with operation (arguments_from t from end)))
-      made true h = refl
-      made false h = absurd (no_yes (sym h))
-
-      count : (b : Bool) → Ok n ≡ need b Malformed (Ok (0 + length (arguments_from t from end))) → n ≡ length (arguments_from t from end)
-      count true h =
-          let z : n ≡ 0 + length (arguments_from t from end) = cc in
-          omega arith
-      count false h = absurd (no_yes (sym h))
+  some_of nz =
+      let q : w.start + w.len - w.start ≡ w.len = omega arith in
+      rw (ne_eqb (trimmed t w).len 0 (λ z. nz (ap (λ (x : Word). x.len) e ∙ z))) (arguments_here t w.start (w.start + w.len) (omega arith) ∙ ap (λ (n : ℕ). trimmed_parts t (record { start = w.start; len = n })) q)
 
 -- ---- the parentheses
 
-module _ (t : List ℕ) (from end opening closing : ℕ) where
-  pub lacks_opening : end ≤ opening → Err Malformed ≡ invocation t from end opening closing
+module _ (t : List ℕ) (from end opening closing : ℕ) (h : opening < end) where
+  pub reversed : closing ≤ opening → Err Malformed ≡ invocation t from end opening (closing + 1)
   unfolding invocation
-  lacks_opening h = rw (le-ltb opening end h)
+  reversed k =
+      let q : closing + 1 ≤ opening + 1 = omega arith in
+      rw (lt-ltb opening end h, le-ltb (opening + 1) (closing + 1) q)
 
-  module _ (h : opening < end) where
-    pub lacks_closing : closing ≤ opening + 1 → Err Malformed ≡ invocation t from end opening closing
+  module _ (k : opening < closing) (w : Word) (e : w ≡ trimmed t (between (closing + 1) end)) where
+    order : ltb (opening + 1) (closing + 1) ≡ true
+    order = lt-ltb (opening + 1) (closing + 1) (omega arith)
+
+    pub more_after : (w.len ≡ 0 → ⊥) → Err Malformed ≡ invocation t from end opening (closing + 1)
     unfolding invocation
-    lacks_closing k = rw (lt-ltb opening end h, le-ltb (opening + 1) closing k)
+    more_after nz = rw (lt-ltb opening end h, order, ne_eqb (trimmed t (between (closing + 1) end)).len 0 (λ q. nz (ap (λ (x : Word). x.len) e ∙ q)))
 
-    module _ (k : opening + 1 < closing) (w : Word) (e : w ≡ trimmed t (between closing end)) where
-      pub more_after : (w.len ≡ 0 → ⊥) → Err Malformed ≡ invocation t from end opening closing
+    module _ (z : w.len ≡ 0) (o : Word) (eo : o ≡ trimmed t (between from opening)) where
+      pub lacks_operation : o.len ≡ 0 → Err Malformed ≡ invocation t from end opening (closing + 1)
       unfolding invocation
-      more_after nz = rw (lt-ltb opening end h, lt-ltb (opening + 1) closing k, ne_eqb (trimmed t (between closing end)).len 0 (λ q. nz (ap (λ (x : Word). x.len) e ∙ q)))
+      lacks_operation y =
+          rw (lt-ltb opening end h, order, eq-eqb _ 0 (ap (λ (x : Word). x.len) (sym e) ∙ z), eq-eqb _ 0 (ap (λ (x : Word). x.len) (sym eo) ∙ y))
 
-      module _ (z : w.len ≡ 0) (o : Word) (eo : o ≡ trimmed t (between from opening)) where
-        pub lacks_operation : o.len ≡ 0 → Err Malformed ≡ invocation t from end opening closing
-        unfolding invocation
-        lacks_operation y =
-            rw (lt-ltb opening end h, lt-ltb (opening + 1) closing k, eq-eqb _ 0 (ap (λ (x : Word). x.len) (sym e) ∙ z), eq-eqb _ 0 (ap (λ (x : Word). x.len) (sym eo) ∙ y))
+      pub has_operation : (o.len ≡ 0 → ⊥) → (v : Word) → v ≡ between (opening + 1) closing → (r : Try Invocation) → InvokedIs t o v r → InvocationIs t r (invocation t from end opening (closing + 1))
+      unfolding invocation
+      has_operation ny v ev r i =
+          let q : closing + 1 - 1 ≡ closing = omega arith in
+          record {
+            is = rw (lt-ltb opening end h, order, eq-eqb _ 0 (ap (λ (x : Word). x.len) (sym e) ∙ z), ne_eqb (trimmed t (between from opening)).len 0 (λ s. ny (ap (λ (x : Word). x.len) eo ∙ s)), q, ← ev, ← eo) i.is;
+            noted = i.noted;
+          }
 
-        pub has_operation : (o.len ≡ 0 → ⊥) → (r : Try Invocation) → InvokedIs t o (opening + 1) (closing - 1) r → InvocationIs t r (invocation t from end opening closing)
-        unfolding invocation
-        has_operation ny r i = record {
-          is = rw (lt-ltb opening end h, lt-ltb (opening + 1) closing k, eq-eqb _ 0 (ap (λ (x : Word). x.len) (sym e) ∙ z), ne_eqb (trimmed t (between from opening)).len 0 (λ q. ny (ap (λ (x : Word). x.len) eo ∙ q)), ← eo) i.is;
-          noted = i.noted;
-        }
+-- what the look-ups of the parentheses say
+module _ (t : List ℕ) (line : Word) where
+  abbrev before : ℕ
+  before = run (is_not 40) (bytes_of t line)
 
-pub parsed : (t : List ℕ) (from end opening last : ℕ) (r : Try Invocation) → from ≤ end → opening ≡ from + run (is_not 40) (stretch t from (end - from)) → last ≡ up_to_last 41 (stretch t from (end - from))
-    → InvocationIs t r (invocation t from end opening (from + last)) → InvocationIs t r (parse_invocation t (between from end))
-unfolding parse_invocation
-parsed t from end opening last r h eo el i =
-    let q : from + (end - from) ≡ end = omega arith in
-    rw (q, ← eo, ← el) i
+  abbrev last : ℕ
+  last = up_to_last 41 (bytes_of t line)
+
+  pub lacks_opening : None ≡ first_place 40 t line → Err Malformed ≡ parse_invocation t line
+  unfolding first_place parse_invocation invocation
+  lacks_opening e =
+      let k : line.len ≤ before = no_place before line.len _ e in
+      let q : line.start + line.len ≤ line.start + before = omega arith in
+      rw (le-ltb (line.start + before) (line.start + line.len) q)
+
+  pub lacks_closing : None ≡ last_place 41 t line → Err Malformed ≡ parse_invocation t line
+  unfolding last_place parse_invocation invocation
+  lacks_closing e =
+      let k : last ≤ 0 = no_place 0 last _ e in
+      let q : line.start + last ≤ line.start + before + 1 = omega arith in
+      rw (le-ltb (line.start + before + 1) (line.start + last) q) (go (ltb (line.start + before) (line.start + line.len)))
+    where
+      go : (b : Bool) → Err Malformed ≡ need {A = Invoked} b Malformed (Err Malformed)
+      go true = refl
+      go false = refl
+
+  pub parentheses : (opening closing : ℕ) → Some opening ≡ first_place 40 t line → Some closing ≡ last_place 41 t line
+      → invocation t line.start (line.start + line.len) opening (closing + 1) ≡ parse_invocation t line
+  unfolding first_place last_place parse_invocation
+  parentheses opening closing eo ec =
+      let o = place_found before line.len _ opening eo in
+      let f = place_found 0 last _ closing ec in
+      let c : closing + 1 ≡ line.start + last = omega (arith, f) in
+      rw (o.0, c)
+
+  pub opening_inside : (opening : ℕ) → Some opening ≡ first_place 40 t line → (line.start ≤ opening) × (opening < line.start + line.len)
+  unfolding first_place
+  opening_inside opening e =
+      let o = place_found before line.len _ opening e in
+      (omega (arith, o), omega (arith, o))
+
+  pub closing_inside : (closing : ℕ) → Some closing ≡ last_place 41 t line → closing < line.start + line.len
+  unfolding last_place
+  closing_inside closing e =
+      let c = place_found 0 last _ closing e in
+      omega (arith, c, last-short 41 (bytes_of t line), length-stretch_le t line.start line.len)

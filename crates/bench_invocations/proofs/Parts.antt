@@ -1,48 +1,93 @@
 -- The last place of a byte, and the parts between commas as a walk meets them.
 -- Assumes nothing.
-use Prim.Native.Nat.{ℕ, suc, ◌+◌, ◌-◌, ◌≤◌, ◌<◌}
+use Rattle.std.specs.Prelude.{Err, Ok, Option, Some, None}
+use Rattle.std.specs.Option.{ok_or}
+use Prim.Native.Nat.{ℕ, zero, suc, ◌+◌, ◌-◌, ◌≤◌, ◌<◌}
 use mathlib.Core.Path.{◌≡◌, refl, sym, ap, ap₂, ◌∙◌}
 use mathlib.Core.Bool.{Bool, true, false, cond}
-use mathlib.Core.List.{List, [], ◌∷◌, ◌++◌}
+use mathlib.Core.List.{List, [], ◌∷◌}
 use native.Mathlib.Nat.{le_of_suc-le-suc, not-suc-le-zero}
 use native.Mathlib.Omega.{arith}
 use lib.ListN.{length, get_or, take, drop}
 use lib.Dec.{eqb, ltb, leb}
-use borrow.Author.Tests.{lt-ltb, le-leb, lt-leb, eq-eqb, ne_eqb, leb-true, ltb-true, ltb-false}
+use borrow.Author.Tests.{lt-ltb, le-leb, lt-leb, leb-true, ltb-true, ltb-false}
 use Rattle.laws.specs.Stretches.{stretch, run, is_not}
-use Rattle.laws.proofs.Stretches.{stretch_snoc, length-stretch, take-stretch, drop-part}
+use Rattle.laws.proofs.Stretches.{length-stretch, take-stretch, drop-part}
+use Rattle.text.specs.Words.{bytes_of, between}
+use Rattle.circuit.specs.declared.refusals.Refusal.{Refusal}
+use Rattle.circuit.specs.Refusals.{Try}
 use Rattle.text.specs.Blanks.{trimmed}
 use Rattle.text.specs.Lines.{add_first, places}
 use Rattle.text.specs.declared.words.Word.{Word}
-use Rattle.bench_invocations.specs.Invocations.{between, up_to_last, parts, trimmed_parts}
-use Rattle.bench_invocations.specs.Walks.{arguments_from}
+use Rattle.bench_invocations.specs.Invocations.{up_to_last, parts, trimmed_parts}
+use Rattle.bench_invocations.specs.Walks.{last_place, arguments_from}
 
 -- ---- the last place of a byte
 
-last_hit : (x : ℕ) (l : List ℕ) → up_to_last x (l ++ (x ∷ [])) ≡ suc (length l)
+last_none : (x : ℕ) (l : List ℕ) → ((k : ℕ) → k < length l → eqb (get_or l k 0) x ≡ false) → up_to_last x l ≡ 0
 unfolding up_to_last
-last_hit x [] = rw (eq-eqb x x refl)
-last_hit x (b ∷ bs) =
-    let p : 0 < suc (length bs) = omega arith in
-    rw (last_hit x bs, lt-ltb 0 (suc (length bs)) p)
+last_none x [] f = refl
+last_none x (b ∷ bs) f = rw (last_none x bs (λ k h. f (suc k) (omega arith)), f 0 (omega arith))
 
-last_miss : (x : ℕ) (l : List ℕ) (b : ℕ) → (b ≡ x → ⊥) → up_to_last x (l ++ (b ∷ [])) ≡ up_to_last x l
+last_at : (x : ℕ) (l : List ℕ) (i : ℕ) → i < length l → eqb (get_or l i 0) x ≡ true → ((k : ℕ) → i + 1 ≤ k → k < length l → eqb (get_or l k 0) x ≡ false) → up_to_last x l ≡ suc i
 unfolding up_to_last
-last_miss x [] b ne = rw (ne_eqb b x ne)
-last_miss x (c ∷ cs) b ne = rw (last_miss x cs b ne)
+last_at x [] i h e f = absurd (not-suc-le-zero h)
+last_at x (b ∷ bs) zero h e f = rw (last_none x bs (λ k j. f (suc k) (omega arith) (omega arith)), e)
+last_at x (b ∷ bs) (suc i) h e f =
+    let p : 0 < suc i = omega arith in
+    rw (last_at x bs i (omega arith) e (λ k j m. f (suc k) (omega arith) (omega arith)), lt-ltb 0 (suc i) p)
 
-module _ (x : ℕ) (t : List ℕ) (s n : ℕ) (h : 0 < n) (k : s + n ≤ length t) where
-  pub last_here : get_or t (s + (n - 1)) 0 ≡ x → n ≡ up_to_last x (stretch t s n)
-  last_here e =
-      let z : suc (length (stretch t s (n - 1))) ≡ n = omega (arith, length-stretch t s (n - 1) (omega arith)) in
-      sym (ap (up_to_last x) (stretch_snoc t s n h k ∙ ap (λ (b : ℕ). stretch t s (n - 1) ++ (b ∷ [])) e) ∙ last_hit x (stretch t s (n - 1)) ∙ z)
+pub last-short : (x : ℕ) (l : List ℕ) → up_to_last x l ≤ length l
+unfolding up_to_last
+last-short x [] = omega arith
+last-short x (b ∷ bs) = go (ltb 0 (up_to_last x bs)) (eqb b x) (last-short x bs)
+  where
+    go : (s t : Bool) → up_to_last x bs ≤ length bs → cond s (suc (up_to_last x bs)) (cond t 1 0) ≤ suc (length bs)
+    go true t h = omega arith
+    go false true h = omega arith
+    go false false h = omega arith
 
-  pub last_before : (get_or t (s + (n - 1)) 0 ≡ x → ⊥) → up_to_last x (stretch t s (n - 1)) ≡ up_to_last x (stretch t s n)
-  last_before ne = sym (ap (up_to_last x) (stretch_snoc t s n h k) ∙ last_miss x (stretch t s (n - 1)) _ ne)
+module _ (x : ℕ) (t : List ℕ) (w : Word) (l : List ℕ) (e : l ≡ bytes_of t w) where
+  pub no_last : ((k : ℕ) → k < length l → eqb (get_or l k 0) x ≡ false) → None ≡ last_place x t w
+  unfolding last_place
+  no_last f = rw (← e, last_none x l f)
 
-pub last_none : (x : ℕ) (t : List ℕ) (s n : ℕ) → n ≡ 0 → 0 ≡ up_to_last x (stretch t s n)
-unfolding up_to_last stretch
-last_none x t s n e = rw e
+  pub last_found : (i : ℕ) → i < length l → eqb (get_or l i 0) x ≡ true → ((k : ℕ) → i + 1 ≤ k → k < length l → eqb (get_or l k 0) x ≡ false) → Some (w.start + i) ≡ last_place x t w
+  unfolding last_place
+  last_found i h q f =
+      let p : 0 < suc i = omega arith in
+      let r : suc i - 1 ≡ i = omega arith in
+      rw (← e, last_at x l i h q f, lt-ltb 0 (suc i) p, r)
+
+-- ---- what a look-up says
+
+pub some_ok : (r : Option ℕ) (e : Refusal) (x : ℕ) → Ok x ≡ ok_or r e → Some x ≡ r
+some_ok (Some y) e x q =
+    let z : x ≡ y = cc in
+    ap Some z
+some_ok None e x q = absurd (cc)
+
+pub none_err : (r : Option ℕ) (e f : Refusal) → ◌≡◌ {A = Try ℕ} (Err f) (ok_or r e) → (None ≡ r) × (f ≡ e)
+none_err (Some y) e f q = absurd (cc)
+none_err None e f q =
+    let z : f ≡ e = cc in
+    (refl, z)
+
+pub place_found : (a b p at : ℕ) → Some at ≡ cond (ltb a b) (Some p) None → (at ≡ p) × (a < b)
+place_found a b p at e = go (ltb a b) refl e
+  where
+    go : (t : Bool) → ltb a b ≡ t → Some at ≡ cond t (Some p) None → (at ≡ p) × (a < b)
+    go true h q =
+        let z : at ≡ p = cc in
+        (z, ltb-true a b h)
+    go false h q = absurd (cc)
+
+pub no_place : (a b p : ℕ) → ◌≡◌ {A = Option ℕ} None (cond (ltb a b) (Some p) None) → b ≤ a
+no_place a b p e = go (ltb a b) refl e
+  where
+    go : (t : Bool) → ltb a b ≡ t → ◌≡◌ {A = Option ℕ} None (cond t (Some p) None) → b ≤ a
+    go true h q = absurd (cc)
+    go false h q = ltb-false a b h
 
 -- ---- parts
 

@@ -5,16 +5,13 @@ use Rattle.laws.specs.Stretches.{run, is_not}
 use Rattle.circuit.specs.declared.refusals.Refusal.TheVariants.{Malformed}
 use Rattle.circuit.specs.Refusals.{Try, need}
 use Rattle.text.specs.Blanks.{trimmed}
-use Rattle.text.specs.Words.{bytes_of}
+use Rattle.text.specs.Words.{bytes_of, between}
 use Rattle.text.specs.Lines.{add_first, places}
 use Rattle.text.specs.declared.words.Word.{Word}
 
 pub record Invoked : Type 0 where
   pub operation : Word
   pub arguments : List Word
-
-abbrev pub between : ℕ → ℕ → Word
-between s e = record { start = s; len = e - s }
 
 -- nothing, or blanks alone
 abbrev pub blank : List ℕ → Word → Bool

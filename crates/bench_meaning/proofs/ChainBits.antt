@@ -1,10 +1,11 @@
 -- Cells of two inputs chained left give the operation of all their bits, negated once, whatever their number.
 -- Assumes nothing.
-use Prim.Native.Nat.{ℕ, zero, suc, ◌+◌, ◌<◌}
+use Prim.Native.Nat.{ℕ, ◌+◌, ◌<◌}
 use mathlib.Core.Path.{◌≡◌, refl, subst, sym, ap, ◌∙◌}
 use mathlib.Core.List.{List, [], ◌∷◌}
 use native.Mathlib.Omega.{arith}
 use Rattle.laws.specs.Sums.{sum}
+use Rattle.laws.proofs.Rows.{two_bits}
 use Rattle.cells.specs.Cells.{index_from}
 use Rattle.cells.proofs.Rule.{rule_known, entry-bit}
 use Rattle.bench_gates.specs.declared.operations.Binary.{Binary}
@@ -13,16 +14,6 @@ use Rattle.bench_gates.specs.Operations.{truth_table, associative}
 use Rattle.bench_meaning.specs.Operations.{conjunction, disjunction, odd, parity, negation, binary_bit}
 use Rattle.bench_meaning.specs.Chains.{step_value, last_value, chain_value}
 use Rattle.bench_meaning.specs.GateMeaning.{Bits}
-
--- what holds of the four pairs of bits
-two_bits : (P : ℕ → ℕ → Type 0) → P 0 0 → P 0 1 → P 1 0 → P 1 1 → (x y : ℕ) → x < 2 → y < 2 → P x y
-two_bits P a b c d zero zero h k = a
-two_bits P a b c d zero (suc zero) h k = b
-two_bits P a b c d (suc zero) zero h k = c
-two_bits P a b c d (suc zero) (suc zero) h k = d
-two_bits P a b c d (suc (suc x)) y h k = absurd (omega arith)
-two_bits P a b c d zero (suc (suc y)) h k = absurd (omega arith)
-two_bits P a b c d (suc zero) (suc (suc y)) h k = absurd (omega arith)
 
 -- the last cell gives the operation of its two bits
 abbrev LastIs : Binary → ℕ → ℕ → Type 0

@@ -1,9 +1,9 @@
 -- What a line leaves that is accepted: an input with its assigned value, or a gate whose equation holds.
 -- Assumes nothing.
-use Rattle.std.specs.Prelude.{None, Ok, Option, Some}
+use Rattle.std.specs.Prelude.{None, Ok}
 use Prim.Native.Nat.{ℕ, suc, ◌+◌, ◌<◌}
 use mathlib.Core.Path.{◌≡◌, refl, sym, ap, ◌∙◌, subst}
-use mathlib.Core.Bool.{Bool, true, false, cond}
+use mathlib.Core.Bool.{true}
 use mathlib.Core.List.{List, [], ◌∷◌, ◌++◌, map}
 use native.Mathlib.Omega.{arith}
 use lib.Dec.{ltb}
@@ -11,14 +11,15 @@ use lib.ListN.{length, get_or, length-append}
 use Rattle.laws.specs.Stretches.{All}
 use Rattle.circuit.specs.declared.refusals.Refusal.TheVariants.{Malformed}
 use Rattle.circuit.specs.declared.records.BoolNode.{BoolNode}
-use Rattle.circuit.specs.Refusals.{Try}
 use Rattle.circuit.specs.Records.{is_cell_node}
-use Rattle.circuit.proofs.Tries.{no_yes, yes_same, then_yes, need-yes}
+use Rattle.circuit.proofs.Tries.{yes_same, then_yes, need-yes}
 use Rattle.text.specs.Words.{bytes_of}
 use Rattle.text.specs.declared.words.Word.{Word}
-use Rattle.reading.specs.Reading.{Places, Held, find, unless_defined, driver, add_named, input_node, add_input}
+use Rattle.reading.specs.Reading.{Places, Held, find, driver, add_named, input_node, add_input}
+use Rattle.reading.proofs.States.{undefined_yes}
 use Rattle.reading.proofs.Sound.{find_below}
 use Rattle.runs.specs.Runs.{input_count}
+use Rattle.runs.proofs.NodeValues.{count_append}
 use Rattle.bench_invocations.specs.Invocations.{Invoked, parse_invocation}
 use Rattle.bench_gates.specs.declared.operations.Operation.{Operation}
 use Rattle.bench_gates.specs.Operations.{operation_of}
@@ -27,34 +28,17 @@ use Rattle.bench.specs.Bench.{Gate, gate_invoked, gate_of, gate_line}
 use Rattle.bench_meaning.specs.Operations.{operation_bit}
 use Rattle.bench_meaning.specs.GateMeaning.{CarryAll, Bits}
 use Rattle.bench_meaning.specs.TextMeaning.{Equation}
-use Rattle.bench_meaning.proofs.Records.{named_made}
+use Rattle.reading.proofs.Made.{named_made, driver_found}
 use Rattle.bench_meaning.proofs.Values.{wire_kept, wire_new}
 use Rattle.bench_meaning.proofs.GateMeans.{gate_means}
 use Rattle.bench_meaning.proofs.Growing.{HeldWired, value, Defined, value_at, Grows, all_defined_on, values_on, Added, added}
 
 -- ---- the number of inputs
 
-count_append : (ns ms : List BoolNode) → input_count (ns ++ ms) ≡ input_count ns + input_count ms
-unfolding input_count
-count_append [] ms = omega arith
-count_append (n ∷ ns) ms = go (is_cell_node n) (count_append ns ms)
-  where
-    go : (t : Bool) → input_count (ns ++ ms) ≡ input_count ns + input_count ms → cond t (input_count (ns ++ ms)) (suc (input_count (ns ++ ms))) ≡ cond t (input_count ns) (suc (input_count ns)) + input_count ms
-    go true e = e
-    go false e = omega (arith, e)
-
 count-cells : (ns : List BoolNode) → All (λ n. is_cell_node n ≡ true) ns → input_count ns ≡ 0
 unfolding input_count
 count-cells [] c = refl
 count-cells (n ∷ ns) c = rw c.0 (count-cells ns c.1)
-
-undefined_yes : {A : Type 0} (f : Option ℕ) (k : Try A) (x : A) → unless_defined f k ≡ Ok x → (f ≡ None) × (k ≡ Ok x)
-undefined_yes (Some y) k x q = absurd (no_yes q)
-undefined_yes None k x q = (refl, q)
-
-pub driver-yes : (f : Option ℕ) (x : ℕ) → driver f ≡ Ok x → f ≡ Some x
-driver-yes (Some y) x q = ap Some (yes_same q)
-driver-yes None x q = absurd (no_yes q)
 
 module _ (t a : List ℕ) where
   -- ---- an input
@@ -88,7 +72,7 @@ module _ (t a : List ℕ) where
   driven h (w ∷ ws) xs wd q =
       let x = then_yes (driver (find true t w h.names)) _ xs q in
       let r = then_yes (input_wires t h.names ws) _ xs x.2 in
-      let f = driver-yes (find true t w h.names) x.0 x.1 in
+      let f = driver_found (find true t w h.names) x.0 x.1 in
       let d = driven h ws r.0 wd r.1 in
       subst (Driven h (w ∷ ws)) (yes_same r.2)
       (record {

@@ -1,12 +1,13 @@
 -- A gate that is accepted: its name's wire has the operation's bit of the inputs' bits, and every earlier wire its value still.
 -- Assumes nothing.
 use Rattle.std.specs.Prelude.{Ok}
-use Prim.Native.Nat.{ℕ, zero, suc, ◌+◌, ◌-◌, ◌<◌}
+use Prim.Native.Nat.{ℕ, suc, ◌+◌, ◌-◌, ◌<◌}
 use mathlib.Core.Path.{◌≡◌, refl, sym, ◌∙◌, subst}
 use mathlib.Core.Bool.{true}
 use mathlib.Core.List.{List, [], ◌∷◌, ◌++◌, append_assoc, append-nil}
 use native.Mathlib.Omega.{arith}
 use lib.ListN.{length, length-append}
+use Rattle.laws.proofs.Rows.{one_bit}
 use Rattle.circuit.specs.declared.records.BoolNode.{BoolNode}
 use Rattle.circuit.specs.Records.{is_cell_node}
 use Rattle.circuit.proofs.Tries.{no_yes, then_yes}
@@ -21,16 +22,15 @@ use Rattle.bench_gates.specs.Gates.{output_name, step_name, inverter, step_cell,
 use Rattle.bench_meaning.specs.Chains.{step_value, chain_value}
 use Rattle.bench_meaning.specs.GateMeaning.{Carries, CarryAll, Lowered, GateMeans}
 use Rattle.bench_meaning.proofs.ChainBits.{chain_bits}
-use Rattle.bench_meaning.proofs.Records.{node_made, name_made, named_made}
+use Rattle.reading.proofs.Made.{node_made, alias_made, named_made}
 use Rattle.bench_meaning.proofs.Values.{at_end, wire_kept, wire_new, one_answer, two_answer, all_kept}
 
 module _ (a : List ℕ) (p : Places) (out : Word) where
   -- ---- a name for a wire, and a cell with its name
 
   alias_lowered : (x v : ℕ) (h h' : Held) → Carries a h.nodes x v → add_alias p out x h ≡ Ok h' → Lowered a out v h h'
-  unfolding add_alias
   alias_lowered x v h h' c q =
-      subst (Lowered a out v h) (name_made p.names out x h.nodes h.names h' q)
+      subst (Lowered a out v h) (alias_made p out x h h' q)
       (record { cells = []; are_cells = tt; appended = sym (append-nil h.nodes); wire = x; named = refl; carries = c; kept = λ y b. refl })
 
   named_lowered : (n : BoolNode) (v : ℕ) (h h' : Held) → is_cell_node n ≡ true → at_end a h.nodes n ≡ v → add_named p out n h ≡ Ok h' → Lowered a out v h h'
@@ -84,9 +84,7 @@ module _ (a : List ℕ) (p : Places) (out : Word) where
   -- ---- every operation
 
   inverted : (v : ℕ) → v < 2 → cell_rule 1 (v ∷ []) ≡ 1 - v
-  inverted zero b = refl
-  inverted (suc zero) b = refl
-  inverted (suc (suc v)) b = absurd (omega arith)
+  inverted = one_bit (λ (v : ℕ). cell_rule 1 (v ∷ []) ≡ 1 - v) refl refl
 
   pub gate_means : (o : Operation) (xs vs : List ℕ) (h h' : Held) → CarryAll a h.nodes xs vs → lower_gate p out o xs h ≡ Ok h' → GateMeans a out o vs h h'
   unfolding lower_gate chained chain is_cell_node

@@ -3,27 +3,22 @@
 use Rattle.std.specs.Prelude.{None, Option, Some}
 use Prim.Native.Nat.{ℕ, ◌+◌, ◌≤◌, ◌<◌}
 use mathlib.Core.Path.{◌≡◌, refl, sym, ap, ap₂, ◌∙◌, subst}
-use mathlib.Core.Bool.{true, false}
+use mathlib.Core.Bool.{true}
 use mathlib.Core.List.{List, [], ◌∷◌, map}
 use native.Mathlib.Omega.{arith}
 use lib.ListN.{length}
 use Rattle.laws.specs.Stretches.{All}
 use Rattle.circuit.specs.declared.records.BoolWire.{BoolWire}
-use Rattle.circuit.specs.declared.records.BoolWire.TheVariants.{Const}
-use Rattle.circuit.specs.Records.{wire_of}
 use Rattle.text.specs.declared.words.Word.{Word}
 use Rattle.names.specs.Names.{Entry}
 use Rattle.reading.specs.Reading.{Held, find}
+use Rattle.reading.proofs.Ended.{wire_at}
 use Rattle.reading.proofs.Sound.{Wired, wired_more, find_below}
 use Rattle.runs.specs.Values.{signal_value, storage_values}
 use Rattle.bench_meaning.specs.GateMeaning.{wire_value, Carries}
 use Rattle.bench_meaning.specs.TextMeaning.{name_value}
-use Rattle.bench_meaning.proofs.Records.{entry}
+use Rattle.reading.proofs.Made.{entry}
 use Rattle.bench_meaning.proofs.Naming.{found_in, find-is, find_new, find-kept}
-
-abbrev pub wire_at : Option ℕ → BoolWire
-wire_at (Some x) = wire_of x
-wire_at None = Const false
 
 -- the wire that bytes stand for
 abbrev pub wire_named : List ℕ → List Entry → List ℕ → BoolWire

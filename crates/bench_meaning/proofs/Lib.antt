@@ -1,7 +1,6 @@
 pub mod Examples
 pub mod ChainBits
 pub mod Values
-pub mod Records
 pub mod GateMeans
 pub mod Naming
 pub mod Growing

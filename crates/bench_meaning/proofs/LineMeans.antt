@@ -1,41 +1,31 @@
 -- What a line that is accepted adds to what has been read: its inputs, its gate's equation, its outputs.
 -- Assumes nothing.
-use Rattle.std.specs.Prelude.{Err, Ok}
+use Rattle.std.specs.Prelude.{Ok}
 use Prim.Native.Nat.{ℕ, ◌+◌}
 use mathlib.Core.Path.{◌≡◌, sym, ap, ◌∙◌, subst}
 use mathlib.Core.Bool.{Bool, true, false, cond}
 use mathlib.Core.List.{List, [], ◌∷◌, ◌++◌, append-nil}
 use native.Mathlib.Nat.{add-zero}
 use native.Mathlib.Omega.{arith}
-use lib.Dec.{ltb}
 use lib.ListN.{length}
 use Rattle.laws.specs.Stretches.{All}
-use Rattle.circuit.specs.declared.refusals.Refusal.TheVariants.{NoRoom}
 use Rattle.circuit.specs.Refusals.{Try, and_then}
-use Rattle.circuit.proofs.Tries.{no_yes, yes_same, then_yes, need-yes}
+use Rattle.circuit.proofs.Tries.{no_yes, then_yes}
 use Rattle.text.specs.Blanks.{trimmed}
 use Rattle.text.specs.declared.words.Word.{Word}
 use Rattle.reading.specs.Reading.{Places, Held, State, add_input, add_output}
+use Rattle.reading.specs.States.{with_held, with_outputs}
+use Rattle.reading.proofs.Made.{output_made}
+use Rattle.reading.proofs.States.{held_yes, outputs-yes}
 use Rattle.runs.specs.Runs.{input_count}
-use Rattle.bench_invocations.specs.Invocations.{Invoked, between, parse_invocation}
+use Rattle.text.specs.Words.{between}
+use Rattle.bench_invocations.specs.Invocations.{Invoked, parse_invocation}
 use Rattle.bench.specs.declared.declarations.Declaration.{Declaration}
 use Rattle.bench.specs.declared.declarations.Declaration.TheVariants.{Input, Output, Other}
-use Rattle.bench.specs.Bench.{Declared, gate_line, declared_in, with_held, with_outputs, declare, declaration_line, line_step, read_line}
+use Rattle.bench.specs.Bench.{Declared, gate_line, declared_in, declare, declaration_line, line_step, read_line}
 use Rattle.bench_meaning.specs.TextMeaning.{cut_of, is_gate, GateLine, gate_said, gate_in, input_named, output_named, said, Equation, Assigned}
 use Rattle.bench_meaning.proofs.Growing.{HeldWired, value, Defined, Grows, grows_none}
 use Rattle.bench_meaning.proofs.GateLines.{input_read, gate-line}
-
-held_yes : (os : List Word) (r : Try Held) (s : State) → with_held os r ≡ Ok s → (r ≡ Ok s.held) × (s.outputs ≡ os)
-held_yes os (Err e) s q = absurd (no_yes q)
-held_yes os (Ok h) s q = (ap (λ (x : State). Ok x.held) (yes_same q), sym (ap (λ (x : State). x.outputs) (yes_same q)))
-
-outputs-yes : (h : Held) (r : Try (List Word)) (s : State) → with_outputs h r ≡ Ok s → (r ≡ Ok s.outputs) × (h ≡ s.held)
-outputs-yes h (Err e) s q = absurd (no_yes q)
-outputs-yes h (Ok os) s q = (ap (λ (x : State). Ok x.outputs) (yes_same q), ap (λ (x : State). x.held) (yes_same q))
-
-output_made : (room : ℕ) (w : Word) (os os' : List Word) → add_output room w os ≡ Ok os' → os' ≡ os ++ w ∷ []
-unfolding add_output
-output_made room w os os' q = sym (yes_same (need-yes (ltb (length os) room) NoRoom _ os' q).1)
 
 -- the names that a line declares
 abbrev pub declared_by : (Declaration → Word → List Word) → List ℕ → Word → List Word
@@ -94,14 +84,14 @@ module _ (t a : List ℕ) where
     output_case w q =
         let y = outputs-yes s.held (add_output p.outputs w s.outputs) s' q in
         record {
-          grows = subst (Grows t a s.held) y.1 (grows_none t a s.held);
-          wired = subst HeldWired y.1 wd;
+          grows = subst (Grows t a s.held) (sym y.1) (grows_none t a s.held);
+          wired = subst HeldWired (sym y.1) wd;
           defined = tt;
           assigned = tt;
-          counted = ap (λ (h : Held). input_count h.nodes) (sym y.1) ∙ sym (add-zero (input_count s.held.nodes));
+          counted = ap (λ (h : Held). input_count h.nodes) y.1 ∙ sym (add-zero (input_count s.held.nodes));
           gates_defined = tt;
           equations = tt;
-          collects = output_made p.outputs w s.outputs s'.outputs y.0;
+          collects = sym (output_made p.outputs w s.outputs s'.outputs y.0);
         }
 
     declaration_case : (d : Declaration) (w : Word) → declare t p d w s ≡ Ok s' → LineRead (input_named d w) [] (output_named d w) s s'

@@ -2,16 +2,16 @@
 -- Assumes nothing.
 use Rattle.std.specs.Prelude.{None, Option, Some}
 use Prim.Native.Nat.{ℕ}
-use mathlib.Core.Path.{◌≡◌, refl, sym, subst, ◌∙◌}
+use mathlib.Core.Path.{◌≡◌, refl, sym, ◌∙◌}
 use mathlib.Core.Bool.{Bool, true, false, cond}
 use mathlib.Core.List.{List, [], ◌∷◌}
 use Rattle.laws.specs.Stretches.{same_bytes}
-use Rattle.laws.proofs.Stretches.{same_eq, same_refl}
 use Rattle.text.specs.Words.{bytes_of}
 use Rattle.text.specs.declared.words.Word.{Word}
 use Rattle.names.specs.Names.{Entry, lookup}
+use Rattle.names.proofs.Lookups.{lookup_new, lookup-kept}
 use Rattle.reading.specs.Reading.{find}
-use Rattle.bench_meaning.proofs.Records.{entry}
+use Rattle.reading.proofs.Made.{entry}
 
 module _ (t : List ℕ) where
   -- what bytes stand for, the constants first
@@ -38,25 +38,17 @@ module _ (t : List ℕ) where
       go false e false f r = record { not_false = e; not_true = f; unknown = r }
 
   pub find_new : (w : Word) (x : ℕ) (es : List Entry) → find true t w es ≡ None → find true t w (entry w x ∷ es) ≡ Some x
-  unfolding lookup
   find_new w x es q =
       let f = fresh (bytes_of t w) es (sym (find-is w es) ∙ q) in
-      find-is w (entry w x ∷ es) ∙ rw (f.not_false, f.not_true, same_refl (bytes_of t w))
+      find-is w (entry w x ∷ es) ∙ rw (f.not_false, f.not_true) (lookup_new t (entry w x) es)
 
   pub find-kept : (w u : Word) (x y : ℕ) (es : List Entry) → find true t w es ≡ None → find true t u es ≡ Some y → find true t u (entry w x ∷ es) ≡ Some y
-  unfolding lookup
   find-kept w u x y es q r =
       let f = fresh (bytes_of t w) es (sym (find-is w es) ∙ q) in
       find-is u (entry w x ∷ es) ∙ go f.unknown (same_bytes (bytes_of t u) _) (same_bytes (bytes_of t u) _) (sym (find-is u es) ∙ r)
     where
-      other : lookup t (bytes_of t w) es ≡ None → lookup t (bytes_of t u) es ≡ Some y → (b : Bool) → same_bytes (bytes_of t w) (bytes_of t u) ≡ b → cond b (Some x) (lookup t (bytes_of t u) es) ≡ Some y
-      other none s true e =
-          let f : lookup t (bytes_of t u) es ≡ None = subst (λ (l : List ℕ). lookup t l es ≡ None) (same_eq (bytes_of t w) (bytes_of t u) e) none in
-          cc
-      other none s false e = s
-
       go : lookup t (bytes_of t w) es ≡ None → (c d : Bool) → cond c (Some 0) (cond d (Some 1) (lookup t (bytes_of t u) es)) ≡ Some y
-          → cond c (Some 0) (cond d (Some 1) (cond (same_bytes (bytes_of t w) (bytes_of t u)) (Some x) (lookup t (bytes_of t u) es))) ≡ Some y
+          → cond c (Some 0) (cond d (Some 1) (lookup t (bytes_of t u) (entry w x ∷ es))) ≡ Some y
       go none true d s = s
       go none false true s = s
-      go none false false s = other none s (same_bytes (bytes_of t w) (bytes_of t u)) refl
+      go none false false s = lookup-kept t (entry w x) es (bytes_of t u) y none s

@@ -1,8 +1,8 @@
 -- The whole text: the circuit that the BENCH reader gives means what the text says, under every assignment.
 -- Assumes nothing.
-use Rattle.std.specs.Prelude.{Err, Ok}
+use Rattle.std.specs.Prelude.{Ok}
 use Prim.Native.Nat.{ℕ, suc, ◌+◌, ◌<◌}
-use mathlib.Core.Path.{◌≡◌, refl, sym, ap, ap₂, ◌∙◌, subst}
+use mathlib.Core.Path.{◌≡◌, refl, sym, ap, ◌∙◌, subst}
 use mathlib.Core.Bool.{true}
 use mathlib.Core.List.{List, [], ◌∷◌, ◌++◌, map, append_assoc, append-nil}
 use native.Mathlib.Nat.{add-zero}
@@ -13,14 +13,14 @@ use Rattle.laws.proofs.Stretches.{all_append}
 use Rattle.circuit.specs.declared.records.BoolWire.{BoolWire}
 use Rattle.circuit.specs.declared.records.BoolNode.{BoolNode}
 use Rattle.circuit.specs.declared.records.Output.{Output}
-use Rattle.circuit.specs.Refusals.{Try, and_then}
+use Rattle.circuit.specs.Refusals.{and_then}
 use Rattle.circuit.specs.Circuits.{Circuit}
-use Rattle.circuit.proofs.Tries.{no_yes, yes_same, then_yes, check_yes}
+use Rattle.circuit.proofs.Tries.{yes_same, then_yes, check_yes}
 use Rattle.text.specs.Words.{bytes_of}
 use Rattle.text.specs.Lines.{lines}
 use Rattle.text.specs.Joining.{joined_text}
 use Rattle.text.specs.declared.words.Word.{Word}
-use Rattle.reading.specs.Reading.{Places, places_in, Held, State, start, text_fault, find, driver, each, Out, output_of, resolve, closed, finish}
+use Rattle.reading.specs.Reading.{Places, places_in, Held, State, start, text_fault, find, each, Out, output_of, resolve, finish}
 use Rattle.reading.specs.Areas.{read_text}
 use Rattle.reading.proofs.Sound.{wires_out}
 use Rattle.cells.proofs.Rule.{Each}
@@ -29,10 +29,9 @@ use Rattle.runs.specs.Runs.{input_count}
 use Rattle.runs.proofs.Storage.{Known, evaluate_same, outputs_known}
 use Rattle.bench.specs.Bench.{read_line, bench_lines, bench}
 use Rattle.bench_meaning.specs.Operations.{operation_bit}
-use Rattle.bench_meaning.specs.GateMeaning.{wire_value}
 use Rattle.bench_meaning.specs.TextMeaning.{GateLine, gate_in, gates, input_named, output_named, declared, Equation, Assigned, Means}
-use Rattle.bench_meaning.proofs.Growing.{wire_named, HeldWired, value, Defined, value_at, Grows, grows_none, grows_on, value_on, values_on}
-use Rattle.bench_meaning.proofs.GateLines.{driver-yes}
+use Rattle.bench_meaning.proofs.Growing.{wire_named, HeldWired, value, Defined, Grows, grows_none, grows_on, value_on, values_on}
+use Rattle.reading.proofs.Ended.{resolved_wires, finish_yes}
 use Rattle.bench_meaning.proofs.LineMeans.{declared_by, GateDefined, LineRead, line_read}
 
 assigned-append : (value : Word → ℕ) (a : List ℕ) (p : ℕ) (xs ys : List Word) → Assigned value a p xs → Assigned value a (p + length xs) ys → Assigned value a p (xs ++ ys)
@@ -98,23 +97,8 @@ module _ (t a : List ℕ) where
 
   resolved : (h : Held) (ws : List Word) (os : List Out) → resolve true t h.names ws ≡ Ok os
       → map (signal_value (storage_values h.nodes a)) (map (λ (o : Output). o.wire) (map output_of os)) ≡ map (value t a h) ws
-  unfolding resolve wire_value
-  resolved h [] os q = subst (λ (l : List Out). map (signal_value (storage_values h.nodes a)) (map (λ (o : Output). o.wire) (map output_of l)) ≡ []) (yes_same q) refl
-  resolved h (w ∷ ws) os q =
-      let x = then_yes (driver (find true t w h.names)) _ os q in
-      let r = then_yes (resolve true t h.names ws) _ os x.2 in
-      subst (λ (l : List Out). map (signal_value (storage_values h.nodes a)) (map (λ (o : Output). o.wire) (map output_of l)) ≡ map (value t a h) (w ∷ ws)) (yes_same r.2)
-      (ap₂ (λ (v : ℕ) (vs : List ℕ). v ∷ vs) (sym (value_at t a h w x.0 (driver-yes (find true t w h.names) x.0 x.1))) (resolved h ws r.0 r.1))
-
-closed-yes : (t : List ℕ) (s : State) (c : Circuit) → finish true t s ≡ Ok c → (os : List Out) × (resolve true t s.held.names s.outputs ≡ Ok os) × (record { nodes = s.held.nodes; outputs = map output_of os } ≡ c)
-unfolding finish closed
-closed-yes t s c q = go (resolve true t s.held.names s.outputs) refl q
-  where
-    go : (r : Try (List Out)) → resolve true t s.held.names s.outputs ≡ r → and_then r (closed s.held.nodes) ≡ Ok c
-        → (os : List Out) × (resolve true t s.held.names s.outputs ≡ Ok os) × (record { nodes = s.held.nodes; outputs = map output_of os } ≡ c)
-    go (Err e) p z = absurd (no_yes z)
-    go (Ok []) p z = absurd (no_yes z)
-    go (Ok (o ∷ os)) p z = (o ∷ os, p, yes_same z)
+  unfolding find
+  resolved h ws os q = resolved_wires true t (signal_value (storage_values h.nodes a)) h.names ws os q
 
 -- ---- the theorem
 
@@ -154,7 +138,7 @@ bench_means text j n m o c q =
     let p : Places = places_in n m o in
     let y = check_yes (text_fault text j) (and_then (each (read_line t p) (lines 0 t) start) (finish true t)) c q in
     let s = then_yes (each (read_line t p) (lines 0 t) start) (finish true t) c y.1 in
-    let e = closed-yes t s.0 c s.2 in (
+    let e = finish_yes true t s.0 c s.2 in (
       wire_named t s.0.held.names,
       λ a. subst (λ (x : Circuit). Means t (lines 0 t) x.nodes (wires_out x) (wire_named t s.0.held.names) a) e.2 (state_means t p s.0 s.1 e.0 e.1 a),
     )

@@ -1,10 +1,9 @@
 -- The storage order's values as nodes are added at the end of a circuit: what stands keeps its value, and a cell takes its answer.
 -- Assumes nothing.
 use Prim.Native.Nat.{ℕ, zero, suc, ◌+◌, ◌<◌}
-use mathlib.Core.Path.{◌≡◌, refl, sym, ap, ap₂, ◌∙◌}
-use mathlib.Core.Bool.{Bool, true, false, cond}
+use mathlib.Core.Path.{◌≡◌, refl, ap, ap₂, ◌∙◌}
+use mathlib.Core.Bool.{cond}
 use mathlib.Core.List.{List, [], ◌∷◌, ◌++◌}
-use native.Mathlib.Nat.{add-zero, zero-add}
 use native.Mathlib.Omega.{arith}
 use lib.ListN.{length, get_or, length-append}
 use Rattle.laws.proofs.Filling.{snoc_last}
@@ -14,31 +13,20 @@ use Rattle.circuit.specs.Records.{is_cell_node, wires_of}
 use Rattle.cells.specs.Cells.{cell_rule}
 use Rattle.runs.specs.Values.{answer_of, values_from, storage_values}
 use Rattle.runs.specs.Runs.{input_count}
-use Rattle.runs.proofs.Storage.{length-values, values_stay}
+use Rattle.runs.proofs.NodeValues.{values-append, values_snoc, length-values}
+use Rattle.runs.proofs.Storage.{values_stay}
 use Rattle.bench_gates.specs.Gates.{cell}
 use Rattle.bench_meaning.specs.GateMeaning.{wire_value, Carries, CarryAll}
 
 module _ (a : List ℕ) where
-  -- the nodes at the end go on from the values of those before, and from their inputs
-  values-append : (ns ms : List BoolNode) (p : ℕ) (vs : List ℕ) → values_from answer_of a p vs (ns ++ ms) ≡ values_from answer_of a (p + input_count ns) (values_from answer_of a p vs ns) ms
-  unfolding values_from input_count
-  values-append [] ms p vs = ap (λ (q : ℕ). values_from answer_of a q vs ms) (sym (add-zero p))
-  values-append (n ∷ ns) ms p vs =
-      go (is_cell_node n) _ _ (values-append ns ms p (vs ++ answer_of vs n ∷ [])) (values-append ns ms (suc p) (vs ++ get_or a p 0 ∷ []))
-    where
-      go : (t : Bool) (u v : List ℕ) {x y : List ℕ} → x ≡ values_from answer_of a (p + input_count ns) u ms → y ≡ values_from answer_of a (suc p + input_count ns) v ms
-          → cond t x y ≡ values_from answer_of a (p + cond t (input_count ns) (suc (input_count ns))) (cond t u v) ms
-      go true u v e f = e
-      go false u v e f = let k : suc p + input_count ns ≡ p + suc (input_count ns) = omega arith in f ∙ ap (λ (q : ℕ). values_from answer_of a q v ms) k
-
   storage_length : (ns : List BoolNode) → length (storage_values ns a) ≡ length ns
   unfolding storage_values
-  storage_length ns = length-values a ns 0 [] ∙ zero-add (length ns)
+  storage_length ns = length-values answer_of a ns
 
   value_kept : (ns ms : List BoolNode) (k : ℕ) → k < length ns → get_or (storage_values (ns ++ ms) a) k 0 ≡ get_or (storage_values ns a) k 0
   unfolding storage_values
   value_kept ns ms k h =
-      ap (λ (l : List ℕ). get_or l k 0) (values-append ns ms 0 []) ∙ values_stay a ms (0 + input_count ns) (values_from answer_of a 0 [] ns) k (omega (arith, length-values a ns 0 []))
+      ap (λ (l : List ℕ). get_or l k 0) (values-append answer_of a ns ms 0 []) ∙ values_stay a ms (0 + input_count ns) (values_from answer_of a 0 [] ns) k (omega (arith, length-values answer_of a ns))
 
   pub wire_kept : (ns ms : List BoolNode) (x : ℕ) → x < length ns + 2 → wire_value a (ns ++ ms) x ≡ wire_value a ns x
   unfolding wire_value
@@ -51,13 +39,8 @@ module _ (a : List ℕ) where
   at_end ns n = cond (is_cell_node n) (answer_of (storage_values ns a) n) (get_or a (input_count ns) 0)
 
   node_last : (ns : List BoolNode) (n : BoolNode) → storage_values (ns ++ n ∷ []) a ≡ storage_values ns a ++ at_end ns n ∷ []
-  unfolding storage_values values_from
-  node_last ns n = values-append ns (n ∷ []) 0 [] ∙ rw (zero-add (input_count ns)) (go (is_cell_node n))
-    where
-      go : (t : Bool) → cond t (storage_values ns a ++ answer_of (storage_values ns a) n ∷ []) (storage_values ns a ++ get_or a (input_count ns) 0 ∷ [])
-          ≡ storage_values ns a ++ cond t (answer_of (storage_values ns a) n) (get_or a (input_count ns) 0) ∷ []
-      go true = refl
-      go false = refl
+  unfolding storage_values
+  node_last ns n = values_snoc answer_of a ns n
 
   pub wire_new : (ns : List BoolNode) (n : BoolNode) → wire_value a (ns ++ n ∷ []) (length ns + 2) ≡ at_end ns n
   unfolding wire_value

@@ -8,10 +8,10 @@ use Rattle.circuit.specs.declared.records.BoolWire.TheVariants.{Const}
 use Rattle.circuit.specs.declared.records.BoolNode.{BoolNode}
 use Rattle.circuit.specs.Refusals.{Try}
 use Rattle.text.specs.Blanks.{trimmed}
-use Rattle.text.specs.Words.{bytes_of}
+use Rattle.text.specs.Words.{bytes_of, between}
 use Rattle.text.specs.declared.words.Word.{Word}
 use Rattle.runs.specs.Values.{signal_value, storage_values, storage_outputs, evaluated}
-use Rattle.bench_invocations.specs.Invocations.{Invoked, between, parse_invocation}
+use Rattle.bench_invocations.specs.Invocations.{Invoked, parse_invocation}
 use Rattle.bench_gates.specs.declared.operations.Operation.{Operation}
 use Rattle.bench_gates.specs.Operations.{operation_of}
 use Rattle.bench.specs.declared.declarations.Declaration.{Declaration}

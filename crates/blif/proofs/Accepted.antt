@@ -1,15 +1,15 @@
 -- What it tells that a gate, a directive or a text was accepted.
 -- Assumes nothing.
-use Rattle.std.specs.Prelude.{Err, None, Ok, Option, Some}
+use Rattle.std.specs.Prelude.{None, Ok, Option, Some}
 use Prim.Native.Nat.{ℕ, ◌≤◌}
-use mathlib.Core.Path.{◌≡◌, refl, sym, ap, subst}
+use mathlib.Core.Path.{◌≡◌, refl, sym, subst}
 use mathlib.Core.Bool.{Bool, true, false}
 use mathlib.Core.List.{List, [], ◌∷◌}
 use lib.ListN.{length}
 use lib.Dec.{leb}
 use borrow.Author.Tests.{leb-true}
 use Rattle.circuit.specs.declared.refusals.Refusal.TheVariants.{WrongCount, Malformed}
-use Rattle.circuit.specs.Refusals.{Try, and_then}
+use Rattle.circuit.specs.Refusals.{and_then}
 use Rattle.circuit.specs.Circuits.{Circuit}
 use Rattle.circuit.proofs.Tries.{no_yes, yes_same, then_yes, need-yes, check_yes}
 use Rattle.text.specs.Lines.{lines, line_words}
@@ -17,13 +17,10 @@ use Rattle.text.specs.Joining.{joined_text}
 use Rattle.text.specs.declared.words.Word.{Word}
 use Rattle.cover.specs.Cover.{last_of, cover}
 use Rattle.cover.specs.Directives.{dotted, directive_of, rest_of, rows_of}
-use Rattle.reading.specs.Reading.{Places, places_in, Held, State, start, find, unless_defined, finish, text_fault}
+use Rattle.reading.specs.Reading.{Places, places_in, Held, State, start, find, finish, text_fault}
 use Rattle.reading.specs.Areas.{read_text}
-use Rattle.blif.specs.Blif.{drivers, input_names, gate, Plan, covered, plan, names_line, with_held, with_outputs, directive_step, line_step, read_lines, blif_lines, blif}
-
-pub undefined_yes : {A : Type 0} (f : Option ℕ) (k : Try A) (a : A) → unless_defined f k ≡ Ok a → (f ≡ None) × (k ≡ Ok a)
-undefined_yes (Some x) k a q = absurd (no_yes q)
-undefined_yes None k a q = (refl, q)
+use Rattle.reading.proofs.States.{undefined_yes}
+use Rattle.blif.specs.Blif.{drivers, input_names, gate, Plan, covered, plan, names_line, directive_step, line_step, read_lines, blif_lines, blif}
 
 covered-yes : (out : Word) (xs : List ℕ) (c : Option ℕ) (g : Plan) → covered out xs c ≡ Ok g → (table : ℕ) × (c ≡ Some table) × (record { out = out; wires = xs; table = table } ≡ g)
 unfolding covered
@@ -64,14 +61,6 @@ names-yes t p w ws rows h h' q =
     }
 
 -- ---- lines
-
-pub held_yes : (os : List Word) (r : Try Held) (s : State) → with_held os r ≡ Ok s → (r ≡ Ok s.held) × (s.outputs ≡ os)
-held_yes os (Err e) s q = absurd (no_yes q)
-held_yes os (Ok h) s q = let e = yes_same q in (ap (λ (x : State). Ok x.held) e, sym (ap (λ (x : State). x.outputs) e))
-
-pub outputs-yes : (h : Held) (r : Try (List Word)) (s : State) → with_outputs h r ≡ Ok s → (r ≡ Ok s.outputs) × (s.held ≡ h)
-outputs-yes h (Err e) s q = absurd (no_yes q)
-outputs-yes h (Ok os) s q = let e = yes_same q in (ap (λ (x : State). Ok x.outputs) e, sym (ap (λ (x : State). x.held) e))
 
 -- a line is a directive or a row
 pub line_yes : (t : List ℕ) (p : Places) (row : Bool) (l : Word) (ls : List Word) (s s' : State) → line_step t p row l ls s ≡ Ok s'

@@ -1,15 +1,11 @@
 -- 01's examples, the refusals in their order, and areas that are one record short, computed from the definition.
 -- Assumes nothing.
-use Rattle.std.specs.Prelude.{Err, Ok}
 use Prim.Native.Nat.{ℕ}
 use mathlib.Core.Path.{◌≡◌, refl}
-use mathlib.Core.List.{List, [], ◌∷◌, ◌++◌, map}
-use Rattle.laws.specs.Areas.{encodes, capacity}
+use mathlib.Core.List.{List, [], ◌∷◌, map}
+use Rattle.laws.specs.Areas.{capacity}
 use Rattle.laws.specs.Bits.{set_bit}
 use Rattle.laws.specs.Stretches.{stretch, same_bytes}
-use Rattle.circuit.specs.Refusals.{Try, number_of}
-use Rattle.circuit.specs.Records.{encode_node, encode_output}
-use Rattle.circuit.specs.Circuits.{Circuit}
 use Rattle.text.specs.Bytes.{is_ascii}
 use Rattle.text.specs.Blanks.{is_blank, trim, trim_start, trim_end}
 use Rattle.text.specs.Words.{words}
@@ -19,26 +15,12 @@ use Rattle.names.specs.Names.{lookup}
 use Rattle.cover.specs.Cover.{bit_of, row_with, row_of, fits, matches, set_from, set_row, with_row, set_rows, start_table, last_of, constant, rows_table, cover}
 use Rattle.cover.specs.Directives.{directive, directive_of, rows_of}
 use Rattle.reading.specs.Reading.{bytes_fault, text_fault, find, add_name, add_node, add_alias, add_named, add_input, add_output, each, resolve, closed, finish}
+use Rattle.reading.proofs.Cases.{seen, Case, areas, read_by}
 use Rattle.reading.specs.Areas.{read_text}
 use Rattle.blif.specs.Blif.{drivers, input_names, gate, covered, plan, names_line, directive_step, line_step, row_next, read_lines, blif_lines, blif}
 
--- the words of the nodes, then of the outputs; or the refusal's number alone
-abbrev seen : Try Circuit → List ℕ
-seen (Err e) = number_of e ∷ []
-seen (Ok c) = encodes encode_node c.nodes ++ encodes encode_output c.outputs
-
--- a text, and how many nodes, names and outputs there are places for
-record Case : Type 0 where
-  text : List ℕ
-  nodes : ℕ
-  names : ℕ
-  outputs : ℕ
-
-abbrev areas : List ℕ → ℕ → ℕ → ℕ → Case
-areas t n m o = record { text = t; nodes = n; names = m; outputs = o }
-
 read : Case → List ℕ
-read c = seen (blif c.text 128 c.nodes c.names c.outputs)
+read c = read_by blif c
 
 -- .inputs a b / .outputs y / .names a b t / 10 1 / .names a u / 0 1 / .names t u y / 11 1
 sample : List ℕ

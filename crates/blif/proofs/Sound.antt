@@ -24,7 +24,8 @@ use Rattle.cover.proofs.TableLaws.{cover-fits}
 use Rattle.reading.specs.Reading.{Places, places_in, Held, State, start, find, driver, add_alias, add_named, add_input, add_output, each}
 use Rattle.reading.proofs.Sound.{HeldSound, start-sound, driver_below, alias_sound, named-sound, input_sound, each_keeps, finish-sound, wires_out}
 use Rattle.blif.specs.Blif.{drivers, input_names, cell_node, gate, names_line, directive_step, line_step, row_next, read_lines, blif}
-use Rattle.blif.proofs.Accepted.{names-none, names-yes, held_yes, outputs-yes, line_yes, text_yes}
+use Rattle.reading.proofs.States.{held_yes, outputs-yes}
+use Rattle.blif.proofs.Accepted.{names-none, names-yes, line_yes, text_yes}
 
 -- ---- gates
 

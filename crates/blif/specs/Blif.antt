@@ -15,6 +15,7 @@ use Rattle.cover.specs.declared.directives.Directive.TheVariants.{Ignored, Input
 use Rattle.cover.specs.Cover.{last_of, cover}
 use Rattle.cover.specs.Directives.{dotted, directive_of, rest_of, rows_of, rows_after}
 use Rattle.reading.specs.Reading.{Places, Held, State, start, find, unless_defined, driver, add_alias, add_named, add_input, add_output, each, finish}
+use Rattle.reading.specs.States.{with_held, with_outputs}
 use Rattle.reading.specs.Areas.{read_text}
 
 -- ---- gates
@@ -71,14 +72,6 @@ unfoldable pub names_line : List ℕ → Places → List Word → List (List Wor
 names_line t p ws rows h = and_then (plan t ws rows h.names) (λ g. gate p g.out g.wires g.table h)
 
 -- ---- lines
-
-abbrev pub with_held : List Word → Try Held → Try State
-with_held os (Err e) = Err e
-with_held os (Ok h) = Ok (record { held = h; outputs = os })
-
-abbrev pub with_outputs : Held → Try (List Word) → Try State
-with_outputs h (Err e) = Err e
-with_outputs h (Ok os) = Ok (record { held = h; outputs = os })
 
 -- "`.model`, `.end`: ignored. `.inputs`: per word 4, else an input node. `.outputs`: collected, repeats allowed. .. Other words with `.` first 8"
 unfoldable pub directive_step : List ℕ → Places → Directive → List Word → List (List Word) → State → Try State

@@ -1,92 +1,75 @@
 // A `.names` line: its words, its rows, and the constant, alias or cell that they give.
-ghost use Rattle.std.specs.Prelude.{◌≡◌, true, ◌+◌, ◌-◌, ◌≤◌, ◌<◌, length, IfOk, OnErr};
+ghost use Rattle.std.specs.Prelude.{◌≡◌, ◌+◌, ◌≤◌, length, Some, IfOk, OnErr};
 ghost use Rattle.laws.specs.Areas.{capacity};
-ghost use Rattle.laws.specs.Stretches.{stretch};
-ghost use Rattle.text.specs.Words.{words};
-ghost use Rattle.text.specs.Lines.{lines};
+ghost use Rattle.text.specs.Iterators.{words_left};
 ghost use Rattle.names.specs.Chains.{entries, Table};
-ghost use Rattle.cover.specs.Directives.{rows_of};
+ghost use Rattle.cover.specs.Gates.{listed, InputsFit};
+ghost use Rattle.cover.specs.Rows.{rows_left};
 ghost use Rattle.reading.specs.Reading.{places_in, add_name};
 ghost use Rattle.reading.specs.Holding.{outcome, held_of, Kept, KeptForSome};
-ghost use Rattle.blif.specs.Blif.{gate, plan, names_line};
-ghost use Rattle.blif.specs.Holding.{wanted_wire, gate_plan, PlanIs, PlanFits, CellIs, planned};
+ghost use Rattle.blif.specs.Blif.{cell_node, drivers, gate, plan, names_line};
+ghost use Rattle.blif.specs.Holding.{driver_of, PlanIs};
 
-use circuit::records::{BoolNode, BoolWire, Name};
+use circuit::records::{BoolNode, BoolWire};
 use circuit::refusals::Refusal;
-use cover::gates::{Gate, gate_words};
+use cover::gates::{Inputs, gate_words};
+use cover::lines::Rows;
 use cover::rows::parse_cover;
 use names::NameTable;
-use reading::records::{Counts, add_name, add_named, find_wire};
-use text::words::Word;
+use reading::records::{Counts, add_name, add_named, stretch_name};
+use text::words::{Word, Words};
 
-// A gate that passed its checks: its output word, how many inputs, its table, and the wires of two inputs at most.
+// The table of one input whose value is the input's.
+const BUFFER: usize = 2;
+
+// A gate that passed its checks: its output word, the wires of its inputs, and its table.
 #[derive(Clone, Copy)]
 pub struct Planned {
     pub out: Word,
-    pub inputs: usize,
+    pub wires: Inputs<usize>,
     pub table: usize,
-    pub first: usize,
-    pub second: usize,
 }
 
-// The wire of a word, where it is wanted.
-pub fn input_wire(table: &NameTable, w: Word, wanted: bool) -> Option<usize>
-    requires len_in_bounds { w.start + w.len ≤ length table.now.text.now }
-    ensures { result ≡ wanted_wire table.now.text.now w wanted (entries table.now.names.now table.now.count) }
+// The wire of an input word: 5.
+#[tactic(auto, unfolding(reading::specs::Reading::find))]
+pub fn driver(table: &NameTable, word: Word) -> Result<usize, Refusal>
+    requires len_in_bounds { word.start + word.len ≤ length table.now.text.now }
+    ensures { result ≡ driver_of table.now.text.now (entries table.now.names.now table.now.count) word }
 {
-    if wanted {
-        find_wire(table, w, false)
-    } else {
-        Some(0)
-    }
+    table.find(word).ok_or(Refusal::NoDriver)
 }
 
-// The words of a gate, in order: 4, 6, 5, 7.
-pub fn plan_words(table: &NameTable, g: Gate, next: usize, size: usize) -> Result<Planned, Refusal>
-    requires size_in_bounds { (size ≤ length table.now.text.now) × (0 < g.count) × (g.first.start + g.first.len ≤ length table.now.text.now) × (g.second.start + g.second.len ≤ length table.now.text.now) × (g.last.start + g.last.len ≤ length table.now.text.now) }
-    ensures { PlanIs table.now.text.now result (gate_plan table.now.text.now g (rows_of table.now.text.now (lines next (stretch table.now.text.now next (size - next)))) (entries table.now.names.now table.now.count)) }
+// The wires of the input words: 5.
+#[tactic(auto, unfolding(crate::specs::Blif::drivers))]
+pub fn drivers(table: &NameTable, inputs: Inputs<Word>) -> Result<Inputs<usize>, Refusal>
+    requires len_in_bounds { InputsFit (length table.now.text.now) (Some inputs) }
+    ensures { outcome (λ w. listed w) result ≡ drivers table.now.text.now (entries table.now.names.now table.now.count) (listed inputs) }
 {
-    let inputs = g.count - 1;
-    if let Some(_) = find_wire(table, g.last, false) {
-        return Err(Refusal::DefinedBefore);
-    }
-    if 2 < inputs {
-        return Err(Refusal::WrongCount);
-    }
-    let Some(first) = input_wire(table, g.first, 0 < inputs) else {
-        return Err(Refusal::NoDriver);
-    };
-    let Some(second) = input_wire(table, g.second, 1 < inputs) else {
-        return Err(Refusal::NoDriver);
-    };
-    let Some(truth_table) = parse_cover(table.text, next, size, inputs) else {
-        return Err(Refusal::BadRow);
-    };
-    Ok(Planned {
-        out: g.last,
-        inputs,
-        table: truth_table,
-        first,
-        second,
+    Ok(match inputs {
+        Inputs::Zero => Inputs::Zero,
+        Inputs::One(first) => Inputs::One(driver(table, first)?),
+        Inputs::Two(first, second) => { Inputs::Two(driver(table, first)?, driver(table, second)?) }
     })
 }
 
-// The words after `.names`, with the rows from `next` on: 9, then the gate's.
-pub fn plan_gate(
-    table: &NameTable,
-    from: usize,
-    end: usize,
-    next: usize,
-    size: usize,
-) -> Result<Planned, Refusal>
-    requires from_le_end { (from ≤ end) × (end ≤ length table.now.text.now) × (size ≤ length table.now.text.now) }
-    ensures { PlanIs table.now.text.now result (plan table.now.text.now (words from (stretch table.now.text.now from (end - from))) (rows_of table.now.text.now (lines next (stretch table.now.text.now next (size - next)))) (entries table.now.names.now table.now.count)) }
+// The words after `.names`, with the rows: 9, 4, 6, 5, 7.
+#[tactic(auto, using(crate::proofs::Plans::plan_none, crate::proofs::Plans::plan_known, crate::proofs::Plans::plan_many, crate::proofs::Plans::plan_stop, crate::proofs::Plans::plan_rows, crate::proofs::Plans::plan_made))]
+pub fn plan_gate(table: &NameTable, words: Words, rows: Rows) -> Result<Planned, Refusal>
+    requires same_text { (words.text.now ≡ table.now.text.now) × (rows.lines.text.now ≡ table.now.text.now) }
+    ensures { PlanIs table.now.text.now result (plan table.now.text.now (words_left words.entry) (rows_left rows.entry) (entries table.now.names.now table.now.count)) }
 {
-    let g = gate_words(table.text, from, end);
-    if g.count == 0 {
-        return Err(Refusal::Malformed);
+    let gate = gate_words(words).ok_or(Refusal::Malformed)?;
+    if table.find(gate.out).is_some() {
+        return Err(Refusal::DefinedBefore);
     }
-    plan_words(table, g, next, size)
+    let inputs = gate.inputs.ok_or(Refusal::WrongCount)?;
+    let wires = drivers(table, inputs)?;
+    let truth_table = parse_cover(rows, inputs.count()).ok_or(Refusal::BadRow)?;
+    Ok(Planned {
+        out: gate.out,
+        wires,
+        table: truth_table,
+    })
 }
 
 // A name for a wire that is there.
@@ -114,22 +97,25 @@ pub fn add_alias(
 
 // The cell of a gate.
 pub fn cell_node(p: Planned) -> BoolNode
-    ensures { CellIs p result }
+    ensures { result ≡ cell_node p.out (listed p.wires) p.table }
 {
+    let (first, second) = match p.wires {
+        Inputs::Zero => (0, 0),
+        Inputs::One(first) => (first, 0),
+        Inputs::Two(first, second) => (first, second),
+    };
     BoolNode {
         kind: 2,
-        count: p.inputs,
+        count: p.wires.count(),
         table: p.table,
-        name: Name::Stretch {
-            start: p.out.start,
-            len: p.out.len,
-        },
-        first: BoolWire::from(p.first),
-        second: BoolWire::from(p.second),
+        name: stretch_name(p.out),
+        first: BoolWire::from(first),
+        second: BoolWire::from(second),
     }
 }
 
 // A gate that passed its checks: a constant, an alias or a cell.
+#[tactic(auto, unfolding(crate::specs::Blif::gate, reading::specs::Reading::add_alias))]
 pub fn put_gate(
     text: &[u8],
     p: Planned,
@@ -139,42 +125,41 @@ pub fn put_gate(
     names: &mut [usize],
 ) -> Result<Counts, Refusal>
     requires kept { Kept text.now heads.old nodes.old names.old counts }
-    requires len_in_bounds { (p.out.start + p.out.len ≤ length text.now) × PlanFits p }
+    requires len_in_bounds { p.out.start + p.out.len ≤ length text.now }
     ensures kept_2 { IfOk result (λ c. Kept text.now heads.new nodes.new names.new c) }
     ensures kept_refused { OnErr result (KeptForSome text.now heads.new nodes.new names.new) }
-    ensures counts_after { outcome (λ c. held_of nodes.new names.new c) result ≡ gate (places_in (length nodes.old) (length names.old) 0) (planned p).out (planned p).wires (planned p).table (held_of nodes.old names.old counts) }
+    ensures counts_after { outcome (λ c. held_of nodes.new names.new c) result ≡ gate (places_in (length nodes.old) (length names.old) 0) p.out (listed p.wires) p.table (held_of nodes.old names.old counts) }
 {
-    match (p.inputs, p.table) {
-        (0, wire) => add_alias(text, p.out, wire, counts, heads, names),
-        (1, 2) => add_alias(text, p.out, p.first, counts, heads, names),
+    match (p.wires, p.table) {
+        (Inputs::Zero, wire) => add_alias(text, p.out, wire, counts, heads, names),
+        (Inputs::One(wire), BUFFER) => add_alias(text, p.out, wire, counts, heads, names),
         _ => add_named(text, p.out, cell_node(p), counts, heads, nodes, names),
     }
 }
 
-// `.names`, with its words after the first, and the rows from `next` on.
+// `.names`, with its words after the first, and the rows.
+#[tactic(auto, unfolding(crate::specs::Blif::names_line))]
 pub fn names_line(
-    text: &[u8],
-    from: usize,
-    end: usize,
-    next: usize,
-    size: usize,
+    words: Words,
+    rows: Rows,
     counts: Counts,
     heads: &mut [usize; 256],
     nodes: &mut [usize],
     names: &mut [usize],
 ) -> Result<Counts, Refusal>
-    requires kept { Kept text.now heads.old nodes.old names.old counts }
-    requires from_le_end { (from ≤ end) × (end ≤ length text.now) × (size ≤ length text.now) }
-    ensures kept_2 { IfOk result (λ c. Kept text.now heads.new nodes.new names.new c) }
-    ensures kept_refused { OnErr result (KeptForSome text.now heads.new nodes.new names.new) }
-    ensures counts_after { outcome (λ c. held_of nodes.new names.new c) result ≡ names_line text.now (places_in (length nodes.old) (length names.old) 0) (words from (stretch text.now from (end - from))) (rows_of text.now (lines next (stretch text.now next (size - next)))) (held_of nodes.old names.old counts) }
+    requires kept { Kept words.text.now heads.old nodes.old names.old counts }
+    requires same_text { rows.lines.text.now ≡ words.text.now }
+    ensures kept_2 { IfOk result (λ c. Kept words.entry.text.now heads.new nodes.new names.new c) }
+    ensures kept_refused { OnErr result (KeptForSome words.entry.text.now heads.new nodes.new names.new) }
+    ensures counts_after { outcome (λ c. held_of nodes.new names.new c) result ≡ names_line words.entry.text.now (places_in (length nodes.old) (length names.old) 0) (words_left words.entry) (rows_left rows.entry) (held_of nodes.old names.old counts) }
 {
+    let text = words.text;
     let table = NameTable {
         text,
         heads,
         names,
         count: counts.names,
     };
-    let p = plan_gate(&table, from, end, next, size)?;
+    let p = plan_gate(&table, words, rows)?;
     put_gate(text, p, counts, heads, nodes, names)
 }

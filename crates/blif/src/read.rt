@@ -1,41 +1,44 @@
 // The reader: a text into a circuit, or its refusal.
-ghost use Rattle.std.specs.Prelude.{length};
+ghost use Rattle.std.specs.Prelude.{false, length};
 ghost use Rattle.reading.specs.Areas.{Leaves};
 ghost use Rattle.blif.specs.Blif.{blif_lines, blif};
+ghost use Rattle.blif.specs.Holding.{blif_reads, blif_ends};
 
-use crate::lines::read_lines;
+use crate::lines;
 use circuit::records::Sizes;
 use circuit::refusals::Refusal;
 use names::NameTable;
-use reading::format::{Format, parse};
-use reading::outputs::resolve_outputs;
+use reading::format::{Format, Names, parse};
+use reading::records::Reading;
+use text::words::Word;
 
 // The format BLIF.
 pub struct Blif;
 
+impl Names for Blif {
+    ghost constants = { false };
+
+    #[tactic(auto, unfolding(reading::specs::Reading::find))]
+    fn find_wire(table: &NameTable, word: Word) -> Option<usize> {
+        table.find(word)
+    }
+}
+
 impl Format for Blif {
     ghost lines = { blif_lines };
 
-    fn read_joined(
+    ghost reads = { blif_reads };
+
+    ghost ends = { blif_ends };
+
+    fn read_lines(
         text: &[u8],
+        heads: &mut [usize; 256],
         nodes: &mut [usize],
         names: &mut [usize],
         outputs: &mut [usize],
-    ) -> Result<Sizes, Refusal> {
-        let mut heads = [0; 256];
-        let read = read_lines(text, &mut heads, nodes, names, outputs)?;
-        let counts = read.counts;
-        let table = NameTable {
-            text,
-            heads: &heads,
-            names,
-            count: counts.names,
-        };
-        resolve_outputs(&table, false, outputs, read.outputs)?;
-        Ok(Sizes {
-            nodes: counts.nodes,
-            outputs: read.outputs,
-        })
+    ) -> Result<Reading, Refusal> {
+        lines::read_lines(text, heads, nodes, names, outputs)
     }
 }
 

@@ -7,15 +7,13 @@ use mathlib.Core.List.{List, [], ◌++◌}
 use native.Mathlib.Omega.{arith}
 use lib.ListN.{length, drop, replicate}
 use borrow.Author.Tests.{eq-eqb, ne_eqb, le-leb}
+use Rattle.std.proofs.lemmas.List.{drop-replicate, replicate-append-replicate}
 use Rattle.laws.specs.Areas.{up_from, capacity}
-use Rattle.laws.proofs.Areas.{drop-replicate}
-use Rattle.laws.proofs.Sums.{zeros_append}
 use Rattle.circuit.specs.declared.refusals.Refusal.{Refusal}
 use Rattle.circuit.specs.declared.refusals.Refusal.TheVariants.{HeaderMismatch}
 use Rattle.circuit.specs.declared.records.Sizes.{Sizes}
 use Rattle.circuit.specs.Refusals.{Try}
 use Rattle.circuit.specs.Circuits.{Circuit}
-use Rattle.text.specs.Lines.{kept_lines}
 use Rattle.bristol_rows.specs.declared.answers.Head.{Head}
 use Rattle.bristol_rows.specs.Promises.{HeaderAt}
 use Rattle.bristol.specs.declared.answers.Rows.{Rows}
@@ -35,7 +33,7 @@ zeros_hold enc w a e =
 pub start_is : (h : Head) (wires : List ℕ) → wires ≡ replicate h.wires 0
     → ◌≡◌ {A = State} (record { nodes = up_from input_node 0 h.inputs; wires = up_from input_slot 0 h.inputs ++ drop h.inputs wires }) (start h)
 unfolding start
-start_is h wires e = rw (e, drop-replicate h.inputs h.wires 0)
+start_is h wires e = rw (e, drop-replicate {X = ℕ} h.inputs h.wires 0)
 
 pub rows_told : (n : ℕ) (a w : List ℕ) (k m : ℕ) → k ≡ m → (ls : List (List ℕ)) (s s' : State) → s ≡ s' → (r : Try Rows)
     → RowsAre n a w (rows (capacity 9 k) ls s) r → RowsAre n a w (rows (capacity 9 m) ls s') r
@@ -81,13 +79,12 @@ leaves_more a b k c x y e r nodes outputs part wires h w l =
       answer_is = l.answer_is;
       nodes_are = l.nodes_are;
       outputs_are = l.outputs_are;
-      wires_are = w ∙ ap (λ (v : List ℕ). v ++ replicate (c - k) 0) l.wires_are ∙ zeros_append k (c - k) ∙ ap (λ (m : ℕ). replicate m 0) q;
+      wires_are = w ∙ ap (λ (v : List ℕ). v ++ replicate (c - k) 0) l.wires_are ∙ replicate-append-replicate {A = ℕ} k (c - k) 0 ∙ ap (λ (m : ℕ). replicate m 0) q;
     })
 
 -- ---- the header and the areas
 
-module _ (t : List ℕ) (nr or wr : ℕ) where
-  module _ (h : Head) (rest : ℕ) (g : HeaderAt t h rest) where
-    pub circuit-body : h.wires ≤ wr → h.inputs ≤ nr → body nr or h (kept_lines (drop rest t)) ≡ circuit nr or wr (kept_lines t)
-    unfolding circuit
-    circuit-body l m = rw (g.is, le-leb h.wires wr l, le-leb h.inputs nr m, g.rows_are)
+module _ (ls rest : List (List ℕ)) (nr or wr : ℕ) (h : Head) (g : HeaderAt ls rest h) where
+  pub circuit-body : h.wires ≤ wr → h.inputs ≤ nr → body nr or h rest ≡ circuit nr or wr ls
+  unfolding circuit
+  circuit-body l m = rw (g.is, le-leb h.wires wr l, le-leb h.inputs nr m, g.rows_are)

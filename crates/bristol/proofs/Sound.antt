@@ -11,11 +11,11 @@ use lib.Dec.{eqb, leb, ltb}
 use lib.ListN.{length, get_or, set, drop, replicate}
 use lib.Seq.{get_or-set_same, get_or-set_other, get_or-drop, set_out}
 use borrow.Author.Tests.{eqb-true, eqb-false, ltb-true, ltb-false, leb-false, lt-leb}
+use Rattle.std.proofs.lemmas.Bool.{or_parts}
 use Rattle.laws.specs.Areas.{up_from, capacity}
 use Rattle.laws.proofs.Areas.{length_up}
 use Rattle.laws.proofs.Filling.{length_snoc}
 use Rattle.laws.proofs.Sums.{front_at, past_front}
-use Rattle.laws.proofs.Tests.{neither}
 use Rattle.circuit.specs.declared.refusals.Refusal.TheVariants.{Unknown, WrongCount}
 use Rattle.circuit.specs.declared.records.WireNumber.{WireNumber}
 use Rattle.circuit.specs.declared.records.BoolWire.{BoolWire}
@@ -219,7 +219,7 @@ out_wires os = map (λ (o : Output). o.wire) os
 below_snoc : (m : ℕ) (os : List Output) (o : Output) → some_not_below m (out_wires os) ≡ false → not_below m o.wire ≡ false → some_not_below m (out_wires (os ++ (o ∷ []))) ≡ false
 below_snoc m [] o h k = rw k
 below_snoc m (p ∷ os) o h k =
-    let a = neither (not_below m p.wire) _ h in
+    let a = or_parts (not_below m p.wire) _ h in
     rw a.0 (below_snoc m os o a.1 k)
 
 outputs_below : (m room k : ℕ) (ss : List ℕ) → Wired m ss → (os os' : List Output) → outputs_from room k ss os ≡ Ok os'

@@ -71,9 +71,8 @@ OutputsAre outputs x (Ok k) = OutputsStand outputs x k
 
 -- ---- the whole
 
--- a header that fits the areas, which are empty; the wires have a place for each wire, and the rows begin at `rest`
-pub record Ready (text : List ℕ) (rest : ℕ) (head : Head) (nodes outputs wires : List ℕ) : Type 0 where
-  pub reach : rest ≤ length text + 1
+-- a header that fits the areas, which are empty; the wires have a place for each wire
+pub record Ready (head : Head) (nodes outputs wires : List ℕ) : Type 0 where
   pub fits : head.inputs + head.outputs ≤ head.wires
   pub room : head.inputs ≤ capacity 9 (length nodes)
   pub nodes_empty : HoldsNodes nodes []

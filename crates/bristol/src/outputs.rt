@@ -28,15 +28,14 @@ pub fn put_wires(wires: &[usize], from: usize, outputs: &mut [usize]) -> Result<
     ensures { OutputsAre outputs.new (outputs_from (capacity 5 (length outputs.old)) from (drop from wires.now) []) result }
 {
     let room = records_in(outputs.len(), 5);
-    for k in from..wires.len() {
-        let slot = wires[k];
+    for (count, &slot) in wires[from..].iter().enumerate() {
         if slot == 0 {
             return Err(Refusal::NoDriver);
         }
-        if room <= k - from {
+        if room <= count {
             return Err(Refusal::NoRoom);
         }
-        put_wire(outputs, k - from, WireNumber(k), slot);
+        put_wire(outputs, count, WireNumber(from + count), slot);
     }
     Ok(wires.len() - from)
 }

@@ -1,19 +1,22 @@
 // The reader.
-ghost use Rattle.std.specs.Prelude.{◌≡◌, [], ◌++◌, ◌+◌, ◌-◌, ◌*◌, ◌≤◌, ◌<◌, length, drop, replicate};
+ghost use Rattle.std.specs.Prelude.{◌≡◌, [], ◌++◌, ◌*◌, ◌≤◌, ◌<◌, length, drop};
 ghost use Rattle.laws.specs.Areas.{capacity, up_from};
 ghost use Rattle.text.specs.Lines.{kept_lines};
+ghost use Rattle.text.specs.Iterators.{kept_left};
 ghost use Rattle.bristol.specs.Bristol.{input_node, input_slot, rows, body, circuit, leave, bristol};
 ghost use Rattle.bristol.specs.Promises.{Zeros, HoldsNodes, Ready, RowsAre, ReadIs, Leaves};
 
 use crate::answers::Rows;
 use crate::outputs::put_wires;
 use crate::rows::read_rows;
-use bristol_rows::answers::{Head, Header};
+use bristol_rows::answers::Head;
 use bristol_rows::header::read_header;
 use circuit::areas::{put_node, records_in};
-use circuit::records::{BoolNode, BoolWire, Name, NodeNumber, Sizes, WireNumber};
+use circuit::records::{BoolNode, Name, NodeNumber, Sizes, WireNumber};
 use circuit::refusals::Refusal;
 use text::bytes::is_ascii;
+use text::iterators::kept_lines;
+use text::lines::KeptLines;
 
 // The inputs: node k is the input of wire k.
 pub fn put_inputs(nodes: &mut [usize], count: usize)
@@ -21,15 +24,7 @@ pub fn put_inputs(nodes: &mut [usize], count: usize)
     ensures { HoldsNodes nodes.new (up_from input_node 0 count) }
 {
     for k in 0..count {
-        let input = BoolNode {
-            kind: 1,
-            count: 0,
-            table: 0,
-            name: Name::Number(WireNumber(k)),
-            first: BoolWire::Const(false),
-            second: BoolWire::Const(false),
-        };
-        put_node(nodes, k, input);
+        put_node(nodes, k, BoolNode::input(Name::Number(WireNumber(k))));
     }
 }
 
@@ -38,41 +33,39 @@ pub fn drive_inputs(wires: &mut [usize], count: usize)
     requires { (count ≤ length wires.old) × (count < 1048577) }
     ensures { wires.new ≡ up_from input_slot 0 count ++ drop count wires.old }
 {
-    for k in 0..count {
-        wires[k] = k + 3;
+    for (k, wire) in wires[..count].iter_mut().enumerate() {
+        *wire = k + 3;
     }
 }
 
 // The inputs, and the rows after them.
 pub fn read_gates(
-    text: &[u8],
-    rest: usize,
+    lines: KeptLines,
     nodes: &mut [usize],
     wires: &mut [usize],
     inputs: usize,
 ) -> Result<Rows, Refusal>
-    requires { (rest ≤ length text.now + 1) × (inputs ≤ length wires.old) × (inputs ≤ capacity 9 (length nodes.old)) × HoldsNodes nodes.old [] }
-    ensures { RowsAre (length (kept_lines (drop rest text.now))) nodes.new wires.new (rows (capacity 9 (length nodes.old)) (kept_lines (drop rest text.now)) (record { nodes = up_from input_node 0 inputs; wires = up_from input_slot 0 inputs ++ drop inputs wires.old })) result }
+    requires { (inputs ≤ length wires.old) × (inputs ≤ capacity 9 (length nodes.old)) × HoldsNodes nodes.old [] }
+    ensures { RowsAre (length (kept_left lines.entry)) nodes.new wires.new (rows (capacity 9 (length nodes.old)) (kept_left lines.entry) (record { nodes = up_from input_node 0 inputs; wires = up_from input_slot 0 inputs ++ drop inputs wires.old })) result }
 {
     put_inputs(nodes, inputs);
     drive_inputs(wires, inputs);
-    read_rows(text, rest, nodes, wires, NodeNumber(inputs))
+    read_rows(lines, nodes, wires, NodeNumber(inputs))
 }
 
 // The circuit of a header that fits the areas; `wires` has a place for each wire.
 #[tactic(auto, unfolding(crate::specs::Bristol::body))]
 pub fn read_body(
-    text: &[u8],
-    rest: usize,
+    lines: KeptLines,
     head: Head,
     nodes: &mut [usize],
     outputs: &mut [usize],
     wires: &mut [usize],
 ) -> Result<Sizes, Refusal>
-    requires { Ready text.now rest head nodes.old outputs.old wires.old }
-    ensures { ReadIs nodes.new outputs.new (body (capacity 9 (length nodes.old)) (capacity 5 (length outputs.old)) head (kept_lines (drop rest text.now))) result }
+    requires { Ready head nodes.old outputs.old wires.old }
+    ensures { ReadIs nodes.new outputs.new (body (capacity 9 (length nodes.old)) (capacity 5 (length outputs.old)) head (kept_left lines.entry)) result }
 {
-    let read = read_gates(text, rest, nodes, wires, head.inputs)?;
+    let read = read_gates(lines, nodes, wires, head.inputs)?;
     if read.rows != head.gates {
         return Err(Refusal::HeaderMismatch);
     }
@@ -85,17 +78,16 @@ pub fn read_body(
 
 // The same, with zeros in the wires after it, and in the other areas after a refusal.
 pub fn read_clean(
-    text: &[u8],
-    rest: usize,
+    lines: KeptLines,
     head: Head,
     nodes: &mut [usize],
     outputs: &mut [usize],
     wires: &mut [usize],
 ) -> Result<Sizes, Refusal>
-    requires { Ready text.now rest head nodes.old outputs.old wires.old }
-    ensures { Leaves (leave (length nodes.old) (length outputs.old) (length wires.old) (body (capacity 9 (length nodes.old)) (capacity 5 (length outputs.old)) head (kept_lines (drop rest text.now)))) result nodes.new outputs.new wires.new }
+    requires { Ready head nodes.old outputs.old wires.old }
+    ensures { Leaves (leave (length nodes.old) (length outputs.old) (length wires.old) (body (capacity 9 (length nodes.old)) (capacity 5 (length outputs.old)) head (kept_left lines.entry))) result nodes.new outputs.new wires.new }
 {
-    let read = read_body(text, rest, head, nodes, outputs, wires);
+    let read = read_body(lines, head, nodes, outputs, wires);
     wires.fill(0);
     if read.is_err() {
         nodes.fill(0);
@@ -115,14 +107,16 @@ pub fn read_circuit(
     requires { Zeros nodes.old × Zeros outputs.old × Zeros wires.old }
     ensures { Leaves (leave (length nodes.old) (length outputs.old) (length wires.old) (circuit (capacity 9 (length nodes.old)) (capacity 5 (length outputs.old)) (capacity 1 (length wires.old)) (kept_lines text.now))) result nodes.new outputs.new wires.new }
 {
-    let Header { head, rest } = read_header(text)?;
+    let mut lines = kept_lines(text);
+    let head = read_header(&mut lines)?;
     if records_in(wires.len(), 1) < head.wires || records_in(nodes.len(), 9) < head.inputs {
         return Err(Refusal::NoRoom);
     }
-    read_clean(text, rest, head, nodes, outputs, &mut wires[..head.wires])
+    read_clean(lines, head, nodes, outputs, &mut wires[..head.wires])
 }
 
 // The checks of the text, then its circuit.
+// `reading::areas::bytes_fault` makes the same two checks: to stand on that crate's name tables and joined texts for them would be no plainer.
 #[tactic(auto, unfolding(crate::specs::Bristol::bristol, crate::specs::Bristol::bristol_circuit))]
 pub fn read_text(
     text: &[u8],
@@ -142,14 +136,6 @@ pub fn read_text(
     read_circuit(text, nodes, outputs, wires)
 }
 
-pub fn clear_all(nodes: &mut [usize], outputs: &mut [usize], wires: &mut [usize])
-    ensures { (nodes.new ≡ replicate (length nodes.old) 0) × (outputs.new ≡ replicate (length outputs.old) 0) × (wires.new ≡ replicate (length wires.old) 0) }
-{
-    nodes.fill(0);
-    outputs.fill(0);
-    wires.fill(0);
-}
-
 // A Bristol text into areas for nodes, outputs and wires; the wires are a work area. The C interface lends each by itself.
 pub fn parse_bristol(
     text: &[u8],
@@ -159,6 +145,8 @@ pub fn parse_bristol(
 ) -> Result<Sizes, Refusal>
     ensures { Leaves (bristol text.now (length nodes.old) (length outputs.old) (length wires.old)) result nodes.new outputs.new wires.new }
 {
-    clear_all(nodes, outputs, wires);
+    nodes.fill(0);
+    outputs.fill(0);
+    wires.fill(0);
     read_text(text, nodes, outputs, wires)
 }

@@ -8,17 +8,15 @@ use mathlib.Core.List.{List, [], ◌∷◌}
 use mathlib.Core.Option.{Option, none, some}
 use native.Mathlib.Omega.{arith}
 use lib.Dec.{leb}
-use lib.ListN.{length, drop}
+use lib.ListN.{drop}
 use borrow.Author.Tests.{le-leb, lt-leb, leb-true, leb-false}
 use Rattle.circuit.specs.declared.refusals.Refusal.{Refusal}
 use Rattle.circuit.specs.declared.refusals.Refusal.TheVariants.{Malformed, HeaderMismatch, NotNumber}
 use Rattle.circuit.specs.Refusals.{Try, and_then, need}
 use Rattle.text.specs.Words.{split_whitespace}
-use Rattle.text.specs.Lines.{kept_lines}
 use Rattle.text.specs.Numbers.{parse_each}
 use Rattle.bristol_rows.specs.declared.answers.Counts.{Counts}
 use Rattle.bristol_rows.specs.declared.answers.Head.{Head}
-use Rattle.bristol_rows.specs.declared.answers.Header.{Header}
 use Rattle.bristol_rows.specs.Numbers.{or_refuse, each_number}
 use Rattle.bristol_rows.specs.Header.{grouped_wire_count, groups, group_lines, two_numbers, header}
 use Rattle.bristol_rows.specs.Promises.{group_for, group_of, counts_of, HeadAt, HeadIs, HeaderIs}
@@ -126,13 +124,12 @@ module _ (g w : ℕ) (b c : List ℕ) where
             ∙ ap (λ (z : Option ℕ). fitting g w z (grouped_wire_count o.ns)) first_is.0
             ∙ over_second g w a (grouped_wire_count o.ns) (λ k z. omega (arith, left_is, no_total (w - unwrap_or x 0) k (grouped_wire_count o.ns) (sym e ∙ o.total) z))
 
-        pub both_totals : (d k : ℕ) → y ≡ Some d → HeadAt (group_lines g w b c) k (record { gates = g; wires = w; inputs = a; outputs = d }) k
-        both_totals d k q =
+        pub both_totals : (d : ℕ) → y ≡ Some d → HeadAt (group_lines g w b c) (record { gates = g; wires = w; inputs = a; outputs = d })
+        both_totals d q =
             let z = total (w - unwrap_or x 0) d (grouped_wire_count o.ns) (sym q ∙ o.total) in
             let l : a + d ≤ w = omega (arith, left_is, first_is.1, z.1) in
             record {
               is = both ∙ ap₂ (fitting g w) first_is.0 z.0 ∙ fit l;
-              rows_at = refl;
               fits = l;
             }
           where
@@ -141,26 +138,25 @@ module _ (g w : ℕ) (b c : List ℕ) where
 
 -- ---- the header
 
-module _ (t : List ℕ) where
-  pub header-none : kept_lines t ≡ [] → header (kept_lines t) ≡ Err Malformed
-  unfolding header
-  header-none e = rw e
+pub header_none : (ls : List (List ℕ)) → ls ≡ [] → header ls ≡ Err Malformed
+unfolding header
+header_none ls e = rw e
 
-  pub header-one : (a : List ℕ) (ls : List (List ℕ)) → kept_lines t ≡ a ∷ ls → ls ≡ [] → header (kept_lines t) ≡ Err Malformed
+module _ (ls : List (List ℕ)) (a : List ℕ) (ms : List (List ℕ)) (e : ls ≡ a ∷ ms) where
+  pub header_one : ms ≡ [] → header ls ≡ Err Malformed
   unfolding header
-  header-one a ls e f = rw (e, f)
+  header_one f = rw (e, f)
 
-  pub header_two : (a b : List ℕ) (ls ms : List (List ℕ)) → kept_lines t ≡ a ∷ ls → ls ≡ b ∷ ms → ms ≡ [] → header (kept_lines t) ≡ Err Malformed
-  unfolding header
-  header_two a b ls ms e f g = rw (e, f, g)
+  module _ (b : List ℕ) (ns : List (List ℕ)) (f : ms ≡ b ∷ ns) where
+    pub header_two : ns ≡ [] → header ls ≡ Err Malformed
+    unfolding header
+    header_two g = rw (e, f, g)
 
-  module _ (a b c : List ℕ) (ls ms rows : List (List ℕ)) (e : kept_lines t ≡ a ∷ ls) (f : ls ≡ b ∷ ms) (g : ms ≡ c ∷ rows)
-      (r : Try Counts) (er : r ≡ counts_of (parse_each (split_whitespace a)))
-    where
-      all : kept_lines t ≡ a ∷ b ∷ c ∷ rows
+    module _ (c : List ℕ) (rows : List (List ℕ)) (g : ns ≡ c ∷ rows) (r : Try Counts) (er : r ≡ counts_of (parse_each (split_whitespace a))) where
+      all : ls ≡ a ∷ b ∷ c ∷ rows
       all = e ∙ ap (λ (l : List (List ℕ)). a ∷ l) (f ∙ ap (λ (l : List (List ℕ)). b ∷ l) g)
 
-      pub header_counts : (x : Refusal) → r ≡ Err x → header (kept_lines t) ≡ Err x
+      pub header_counts : (x : Refusal) → r ≡ Err x → header ls ≡ Err x
       unfolding header two_numbers each_number
       header_counts x h = rw all (go (parse_each (split_whitespace a)) (sym h ∙ er))
         where
@@ -171,7 +167,7 @@ module _ (t : List ℕ) where
           go (some (k ∷ w ∷ [])) h = cc
           go (some (k ∷ w ∷ m ∷ ns)) h = let q : x ≡ Malformed = cc in ap Err (sym q)
 
-      header-groups : (k : Counts) → r ≡ Ok k → header (kept_lines t) ≡ group_lines k.gates k.wires b c
+      header-groups : (k : Counts) → r ≡ Ok k → header ls ≡ group_lines k.gates k.wires b c
       unfolding header two_numbers each_number
       header-groups k h = rw all (go (parse_each (split_whitespace a)) (sym h ∙ er))
         where
@@ -184,12 +180,10 @@ module _ (t : List ℕ) where
               ap (λ (z : Counts). group_lines z.gates z.wires b c) (sym q)
           go (some (g ∷ w ∷ m ∷ ns)) h = cc
 
-      pub header_is : (k : Counts) (rest : ℕ) → r ≡ Ok k → rows ≡ kept_lines (drop rest t) → rest ≤ length t + 1
-          → (x : Try Header) → HeadIs (group_lines k.gates k.wires b c) rest x → HeaderIs t x
-      header_is k rest h o l (Err x) p = header-groups k h ∙ p
-      header_is k rest h o l (Ok d) p = record {
+      pub header_is : (k : Counts) → r ≡ Ok k → (x : Try Head) → HeadIs (group_lines k.gates k.wires b c) x → HeaderIs ls rows x
+      header_is k h (Err x) p = header-groups k h ∙ p
+      header_is k h (Ok d) p = record {
         is = header-groups k h ∙ p.is;
-        rows_are = ap (drop 3) all ∙ o ∙ ap (λ (m : ℕ). kept_lines (drop m t)) (sym p.rows_at);
-        reach = omega (arith, p.rows_at);
+        rows_are = sym (ap (drop 3) all);
         fits = p.fits;
       }

@@ -15,11 +15,12 @@ use Rattle.laws.specs.Sums.{sum}
 use Rattle.circuit.specs.declared.refusals.Refusal.{Refusal}
 use Rattle.circuit.specs.declared.refusals.Refusal.TheVariants.{Malformed, NotNumber}
 use Rattle.circuit.specs.Refusals.{Try}
-use Rattle.text.specs.Numbers.{and_then as then}
+use Rattle.text.specs.Numbers.{parse_each, and_then as then}
 use Rattle.bristol_rows.specs.declared.answers.Widths.{Widths}
 use Rattle.bristol_rows.specs.declared.answers.Counts.{Counts}
 use Rattle.bristol_rows.specs.Header.{grouped_wire_count}
-use Rattle.bristol_rows.specs.Promises.{add_to, add_all, widths_of, group_for, group_of, counts_after, counts_of}
+use Rattle.bristol_rows.specs.Promises.{add_to, add_all, widths_of, group_for, group_of, counts_after, counts_of, first_number}
+use Rattle.bristol_rows.proofs.NumberLaws.{each_bad}
 
 -- ---- widths
 
@@ -118,11 +119,14 @@ counts-by g w (some (n ∷ ns)) =
     let d : 0 + suc (length ns) ≡ 0 → ⊥ = λ z. omega arith in
     rw (ne_eqb (0 + suc (length ns)) 0 d)
 
-pub wires_none : (g : ℕ) (y : Option (List ℕ)) → y ≡ some [] → Err Malformed ≡ counts_after g y
-wires_none g y e = rw e
-
-pub wires_invalid : (g : ℕ) (y : Option (List ℕ)) → y ≡ none → Err NotNumber ≡ counts_after g y
-wires_invalid g y e = rw e
+pub wires_first : (g : ℕ) (ws : List (List ℕ)) (e : Refusal) → Err e ≡ first_number ws → Err e ≡ counts_after g (parse_each ws)
+unfolding parse_each
+wires_first g [] e h =
+    let q : e ≡ Malformed = cc in
+    ap Err q
+wires_first g (w ∷ ws) e h =
+    let b = each_bad (w ∷ ws) ws w refl e h in
+    rw b.0 (ap Err b.1)
 
 module _ (g w : ℕ) (x y : Option (List ℕ)) (f : y ≡ then x (λ ns. some (w ∷ ns))) where
   counts_is : counts_by g w (widths_of 0 0 (Some 0) x) ≡ counts_after g y
@@ -141,12 +145,15 @@ module _ (g w : ℕ) (x y : Option (List ℕ)) (f : y ≡ then x (λ ns. some (w
     unfolding counts_by
     counts_two d = rw (eq-eqb v.count 0 d) at (ap (counts_by g w) q ∙ counts_is)
 
-pub first-none : (y : Option (List ℕ)) → y ≡ some [] → Err Malformed ≡ counts_of y
-first-none y e = rw e
+pub gates_first : (ws : List (List ℕ)) (e : Refusal) → Err e ≡ first_number ws → Err e ≡ counts_of (parse_each ws)
+unfolding parse_each
+gates_first [] e h =
+    let q : e ≡ Malformed = cc in
+    ap Err q
+gates_first (w ∷ ws) e h =
+    let b = each_bad (w ∷ ws) ws w refl e h in
+    rw b.0 (ap Err b.1)
 
-pub first_bad : (y : Option (List ℕ)) → y ≡ none → Err NotNumber ≡ counts_of y
-first_bad y e = rw e
-
-pub first-after : (g : ℕ) (r : Try Counts) (x y : Option (List ℕ)) → r ≡ counts_after g x → y ≡ then x (λ ns. some (g ∷ ns)) → r ≡ counts_of y
-first-after g r none y p q = p ∙ ap counts_of (sym q)
-first-after g r (some ns) y p q = p ∙ ap counts_of (sym q)
+pub counts_first : (g : ℕ) (r : Try Counts) (x y : Option (List ℕ)) → r ≡ counts_after g x → y ≡ then x (λ ns. some (g ∷ ns)) → r ≡ counts_of y
+counts_first g r none y p q = p ∙ ap counts_of (sym q)
+counts_first g r (some ns) y p q = p ∙ ap counts_of (sym q)

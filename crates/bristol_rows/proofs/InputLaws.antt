@@ -18,11 +18,10 @@ use Rattle.circuit.specs.declared.refusals.Refusal.TheVariants.{NoDriver}
 use Rattle.circuit.specs.declared.records.BoolWire.{BoolWire}
 use Rattle.circuit.specs.Refusals.{Try, and_then, need}
 use Rattle.circuit.specs.Records.{wire_of, no_wire}
-use Rattle.text.specs.Numbers.{parse_usize, parse_each, number_of, and_then as then}
-use Rattle.bristol_rows.specs.declared.answers.NextNumber.{NextNumber}
+use Rattle.text.specs.Numbers.{parse_usize, parse_each, and_then as then}
 use Rattle.bristol_rows.specs.declared.answers.Slots.{Slots}
 use Rattle.bristol_rows.specs.Row.{wire_number, drivers}
-use Rattle.bristol_rows.specs.Promises.{words_from, First, no_slots, add_slot, add_input, add_inputs, Gathered}
+use Rattle.bristol_rows.specs.Promises.{no_slots, add_slot, add_input, add_inputs, Gathered}
 
 -- ---- one slot
 
@@ -204,45 +203,41 @@ module _ (wires : List ℕ) where
 
 -- ---- the loop over the words
 
--- i of n words have been read up to `at`
-pub record Got (t : List ℕ) (from n : ℕ) (wires : List ℕ) (i at : ℕ) (slots : Slots) : Type 0 where
-  pub same : add_inputs wires i slots (take (n - i) (words_from t at)) ≡ add_inputs wires 0 no_slots (take n (words_from t from))
-  pub left : words_from t at ≡ drop i (words_from t from)
-  pub enough : i ≤ length (words_from t from)
+-- of n words i have been read, and us are left
+pub record Got (n : ℕ) (wires : List ℕ) (ws : List (List ℕ)) (i : ℕ) (us : List (List ℕ)) (slots : Slots) : Type 0 where
+  pub same : add_inputs wires i slots (take (n - i) us) ≡ add_inputs wires 0 no_slots (take n ws)
+  pub left : us ≡ drop i ws
+  pub enough : i ≤ length ws
 
-pub got_start : (t : List ℕ) (from n : ℕ) (wires : List ℕ) → Got t from n wires 0 from no_slots
-got_start t from n wires =
-    record { same = ap (λ (k : ℕ). add_inputs wires 0 no_slots (take k (words_from t from))) (sub-zero n); left = refl; enough = zero-le }
+pub got_start : (n : ℕ) (wires : List ℕ) (ws : List (List ℕ)) → Got n wires ws 0 ws no_slots
+got_start n wires ws = record { same = ap (λ (k : ℕ). add_inputs wires 0 no_slots (take k ws)) (sub-zero n); left = refl; enough = zero-le }
 
-module _ (t : List ℕ) (from n : ℕ) (wires : List ℕ) (i at : ℕ) (slots : Slots) (g : Got t from n wires i at slots) where
-  pub got_missing : i < n → words_from t at ≡ [] → length (words_from t from) < n
-  got_missing h e = omega (arith, ap length (sym g.left ∙ e), length-drop i (words_from t from))
+module _ (n : ℕ) (wires : List ℕ) (ws : List (List ℕ)) (i : ℕ) (us : List (List ℕ)) (slots : Slots) (g : Got n wires ws i us slots) where
+  pub got_missing : i < n → us ≡ [] → length ws < n
+  got_missing h e = omega (arith, ap length (sym g.left ∙ e), length-drop i ws)
 
-  one : i < n → (x : NextNumber) (f : First t at x) (s : Slots) → s ≡ add_input wires slots i (parse_usize f.word)
-      → add_inputs wires (i + 1) s (take (n - (i + 1)) (words_from t x.next)) ≡ add_inputs wires i slots (take (n - i) (words_from t at))
+  one : i < n → (w : List ℕ) (vs : List (List ℕ)) → us ≡ w ∷ vs → (s : Slots) → s ≡ add_input wires slots i (parse_usize w)
+      → add_inputs wires (i + 1) s (take (n - (i + 1)) vs) ≡ add_inputs wires i slots (take (n - i) us)
   unfolding add_inputs
-  one h x f s p =
+  one h w vs e s p =
       let q : n - i ≡ suc (n - (i + 1)) = omega arith in
-      rw (p, q, f.is, add-one i)
+      rw (p, q, e, add-one i)
 
-  pub got_more : i < n → (x : NextNumber) → First t at x → (s : Slots) → s ≡ add_input wires slots i (number_of x.number) → Got t from n wires (i + 1) x.next s
-  got_more h x f s e =
-      let p : s ≡ add_input wires slots i (parse_usize f.word) = e ∙ ap (add_input wires slots i) f.reads in
+  pub got_more : i < n → (w : List ℕ) (vs : List (List ℕ)) → us ≡ w ∷ vs → (x : Option ℕ) → x ≡ parse_usize w → (s : Slots) → s ≡ add_input wires slots i x → Got n wires ws (i + 1) vs s
+  got_more h w vs e x r s p =
       record {
-        same = one h x f s p ∙ g.same;
-        left = ap (drop 1) (sym f.is ∙ g.left) ∙ drop-drop 1 i (words_from t from);
-        enough = omega (arith, ap length (sym g.left ∙ f.is), length-drop i (words_from t from));
+        same = one h w vs e s (p ∙ ap (add_input wires slots i) r) ∙ g.same;
+        left = ap (drop 1) (sym e ∙ g.left) ∙ drop-drop 1 i ws;
+        enough = omega (arith, ap length (sym g.left ∙ e), length-drop i ws);
       }
 
-  pub got_end : n ≤ i → i ≤ n → from ≤ at → at ≤ length t → Gathered t from n wires slots at
+  pub got_end : n ≤ i → i ≤ n → Gathered n wires ws us slots
   unfolding add_inputs
-  got_end h k a b =
+  got_end h k =
       let z : n - i ≡ 0 = omega arith in
       let e : i ≡ n = omega arith in
       record {
         slots_are = sym (rw z) ∙ g.same;
-        left = g.left ∙ ap (λ (j : ℕ). drop j (words_from t from)) e;
+        left = g.left ∙ ap (λ (j : ℕ). drop j ws) e;
         enough = omega (arith, g.enough);
-        after = a;
-        within = b;
       }

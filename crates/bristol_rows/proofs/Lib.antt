@@ -1,4 +1,5 @@
 pub mod Exits
+pub mod WordLaws
 pub mod NumberLaws
 pub mod HeaderLineLaws
 pub mod HeaderLaws

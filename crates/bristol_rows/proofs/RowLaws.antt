@@ -1,7 +1,7 @@
 -- Laws of a row's words after its input wires, and of its arities.
 -- Assumes nothing.
 use Rattle.std.specs.Prelude.{Err, Ok}
-use Prim.Native.Nat.{ℕ, zero, suc, ◌+◌, ◌-◌, ◌≤◌, ◌<◌, ◌^◌}
+use Prim.Native.Nat.{ℕ, zero, suc, ◌+◌, ◌≤◌, ◌<◌}
 use mathlib.Core.Path.{◌≡◌, refl, sym, ap, ap₂, ◌∙◌, subst}
 use mathlib.Core.Bool.{Bool, true, false, cond}
 use mathlib.Core.List.{List, [], ◌∷◌, map}
@@ -24,7 +24,7 @@ use Rattle.bristol_rows.specs.declared.answers.Row.{Row}
 use Rattle.bristol_rows.specs.Numbers.{or_refuse, number, each_number}
 use Rattle.bristol_rows.specs.Operation.{operation}
 use Rattle.bristol_rows.specs.Row.{wire_number, drivers, Gate, gate, row_output, row_wires, row}
-use Rattle.bristol_rows.specs.Promises.{words_from, no_slots, add_inputs, Gathered, drivers_of, RowIs, gate_by, output_by, end_by, wires_by, invalid_arity, wrong_outputs}
+use Rattle.bristol_rows.specs.Promises.{no_slots, add_inputs, Gathered, drivers_of, RowIs, gate_by, output_by, end_by, wires_by, invalid_arity, first_arity, wrong_outputs}
 use Rattle.bristol_rows.proofs.OperationLaws.{operation_no}
 use Rattle.bristol_rows.proofs.InputLaws.{inputs_invalid, inputs-slots, inputs_valid, undriven_slots, drivers-length, Driven, driven_slots}
 
@@ -37,10 +37,6 @@ word_of : (k : ℕ) → wire_word (wire_of k) ≡ k
 word_of zero = refl
 word_of (suc zero) = refl
 word_of (suc (suc k)) = add-two k
-
--- the wire that a slot holds, and the slot, fit a word
-pub slot_fits : (s : ℕ) (w : BoolWire) → w ≡ wire_of (s - 1) → s < 2 ^ 64 → wire_word w + 1 < 2 ^ 64
-slot_fits s w e h = omega (arith, ap wire_word e ∙ word_of (s - 1))
 
 -- ---- the words after the input wires
 
@@ -141,10 +137,10 @@ pub wires_missing : (wires : List ℕ) (n : ℕ) (ws : List (List ℕ)) (k : ℕ
 unfolding wires_by
 wires_missing wires n ws k h = record { is = rw (ne_eqb (length ws) (n + 2) (λ z. omega arith)); fits = tt }
 
-pub wires_end : (t : List ℕ) (from n : ℕ) (wires : List ℕ) (slots : Slots) (next : ℕ) → Gathered t from n wires slots next → (r : Try Row)
-    → RowIs (length wires) (end_by (words_from t next) n slots (length wires)) r → RowIs (length wires) (wires_by wires n (words_from t from)) r
-wires_end t from n wires slots next g r i = record {
-  is = i.is ∙ ap (λ (l : List (List ℕ)). end_by l n slots (length wires)) g.left ∙ end_is wires n (words_from t from) slots g.slots_are g.enough;
+pub wires_end : (wires : List ℕ) (n : ℕ) (ws us : List (List ℕ)) (slots : Slots) → Gathered n wires ws us slots → (r : Try Row)
+    → RowIs (length wires) (end_by us n slots (length wires)) r → RowIs (length wires) (wires_by wires n ws) r
+wires_end wires n ws us slots g r i = record {
+  is = i.is ∙ ap (λ (l : List (List ℕ)). end_by l n slots (length wires)) g.left ∙ end_is wires n ws slots g.slots_are g.enough;
   fits = i.fits;
 }
 
@@ -231,12 +227,58 @@ module _ (wires : List ℕ) (m : ℕ) (a b : List ℕ) (us : List (List ℕ)) (i
     pub row-wires : o ≡ 1 → (r : Try Row) → RowIs m (wires_by wires i us) r → RowIs m (row wires (a ∷ b ∷ us)) r
     row-wires d r x = record { is = x.is ∙ one_output d; fits = x.fits }
 
--- the words by the first of them
-pub row_by : (wires : List ℕ) (m : ℕ) (a : List ℕ) (ws us : List (List ℕ)) → ws ≡ a ∷ us → (r : Try Row) → RowIs m (row wires (a ∷ us)) r → RowIs m (row wires ws) r
-row_by wires m a ws us e r x = record { is = x.is ∙ ap (row wires) (sym e); fits = x.fits }
+-- ---- the arities as the code reads them
 
-pub row-by_two : (wires : List ℕ) (m : ℕ) (a b : List ℕ) (ws us : List (List ℕ)) → ws ≡ b ∷ us → (r : Try Row) → RowIs m (row wires (a ∷ b ∷ us)) r → RowIs m (row wires (a ∷ ws)) r
-row-by_two wires m a b ws us e r x = record { is = x.is ∙ ap (λ (l : List (List ℕ)). row wires (a ∷ l)) (sym e); fits = x.fits }
+-- the first of the words ws is an arity n, and us are left
+pub record Arity (ws us : List (List ℕ)) (n : ℕ) : Type 0 where
+  pub word : List ℕ
+  pub is : ws ≡ word ∷ us
+  pub reads : parse_usize word ≡ some n
 
-pub told : (m : ℕ) (x : Try Gate) (e f : Refusal) → e ≡ f → RowIs m x (Err f) → RowIs m x (Err e)
-told m x e f q h = subst (λ (z : Refusal). RowIs m x (Err z)) (sym q) h
+pub arity_read : (least : ℕ) (ws us : List (List ℕ)) (n : ℕ) → Ok n ≡ first_arity least ws → us ≡ drop 1 ws → Arity ws us n
+arity_read least [] us n e q = cc
+arity_read least (w ∷ vs) us n e q = record { word = w; is = rw q; reads = go (parse_usize w) e }
+  where
+    go : (x : Option ℕ) → Ok n ≡ or_refuse (invalid_arity least vs) x → x ≡ some n
+    go none e = cc
+    go (some m) e =
+        let q : m ≡ n = cc in
+        ap some q
+
+pub first_refused : (wires : List ℕ) (m : ℕ) (ws : List (List ℕ)) (e : Refusal) → Err e ≡ first_arity 3 ws → RowIs m (row wires ws) (Err e)
+first_refused wires m [] e h =
+    let q : e ≡ Malformed = cc in
+    rw q (row-none wires m [] refl)
+first_refused wires m (w ∷ us) e h = go (parse_usize w) refl h
+  where
+    go : (x : Option ℕ) → parse_usize w ≡ x → Err e ≡ or_refuse (invalid_arity 3 us) x → RowIs m (row wires (w ∷ us)) (Err e)
+    go none p h =
+        let q : e ≡ invalid_arity 3 us = cc in
+        rw q (row-first_invalid wires m w us p)
+    go (some n) p h = cc
+
+module _ (wires : List ℕ) (m : ℕ) (ws us : List (List ℕ)) (i : ℕ) (a : Arity ws us i) where
+  pub second_refused : (e : Refusal) → Err e ≡ first_arity 2 us → RowIs m (row wires ws) (Err e)
+  second_refused e h = rw a.is (by us h)
+    where
+      by : (vs : List (List ℕ)) → Err e ≡ first_arity 2 vs → RowIs m (row wires (a.word ∷ vs)) (Err e)
+      by [] h =
+          let q : e ≡ Malformed = cc in
+          rw q (row_one wires m a.word [] refl)
+      by (w ∷ vs) h = go (parse_usize w) refl h
+        where
+          go : (x : Option ℕ) → parse_usize w ≡ x → Err e ≡ or_refuse (invalid_arity 2 vs) x → RowIs m (row wires (a.word ∷ w ∷ vs)) (Err e)
+          go none p h =
+              let q : e ≡ invalid_arity 2 vs = cc in
+              rw q (row_second_invalid wires m a.word w vs i a.reads p)
+          go (some n) p h = cc
+
+  module _ (vs : List (List ℕ)) (o : ℕ) (b : Arity us vs o) where
+    both : ws ≡ a.word ∷ b.word ∷ vs
+    both = a.is ∙ ap (λ (l : List (List ℕ)). a.word ∷ l) b.is
+
+    pub outputs_refused : (o ≡ 1 → ⊥) → RowIs m (row wires ws) (Err (wrong_outputs i o vs))
+    outputs_refused d = rw both (row-outputs wires m a.word b.word vs i a.reads o b.reads d)
+
+    pub wires_read : o ≡ 1 → (r : Try Row) → RowIs m (wires_by wires i vs) r → RowIs m (row wires ws) r
+    wires_read d r x = rw both (row-wires wires m a.word b.word vs i a.reads o b.reads d r x)

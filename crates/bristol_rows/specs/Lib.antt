@@ -1,3 +1,4 @@
+pub mod Words
 pub mod Numbers
 pub mod Header
 pub mod Operation

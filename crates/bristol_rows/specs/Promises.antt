@@ -2,7 +2,6 @@
 -- Assumes nothing.
 use Rattle.std.specs.Prelude.{ℕ, suc, ◌+◌, ◌-◌, ◌≤◌, ◌<◌, ◌^◌, ◌≡◌, true, false, cond, List, [], ◌∷◌, eqb, leb, ltb, length, get_or, take, drop, Err, Ok, Some, None, Option as Answer}
 use Rattle.std.proofs.Math.Option.{Option, none, some}
-use Rattle.laws.specs.Stretches.{stretch}
 use Rattle.circuit.specs.declared.refusals.Refusal.{Refusal}
 use Rattle.circuit.specs.declared.refusals.Refusal.TheVariants.{NoDriver, WrongCount, Malformed, NotNumber, OutputOutside}
 use Rattle.circuit.specs.declared.records.WireNumber.{WireNumber}
@@ -10,41 +9,25 @@ use Rattle.circuit.specs.declared.records.BoolWire.{BoolWire}
 use Rattle.circuit.specs.declared.records.BoolNode.{BoolNode}
 use Rattle.circuit.specs.Refusals.{Try, and_then, need}
 use Rattle.circuit.specs.Records.{wire_of, wire_word}
-use Rattle.text.specs.Words.{split_whitespace}
-use Rattle.text.specs.Lines.{kept_lines}
-use Rattle.text.specs.Numbers.{number_of, parse_usize}
-use Rattle.bristol_rows.specs.declared.answers.NextNumber.{NextNumber}
+use Rattle.text.specs.Numbers.{parse_usize}
 use Rattle.bristol_rows.specs.declared.answers.Widths.{Widths}
 use Rattle.bristol_rows.specs.declared.answers.Counts.{Counts}
 use Rattle.bristol_rows.specs.declared.answers.Head.{Head}
-use Rattle.bristol_rows.specs.declared.answers.Header.{Header}
 use Rattle.bristol_rows.specs.declared.answers.Slots.{Slots}
-use Rattle.bristol_rows.specs.declared.answers.Inputs.{Inputs}
 use Rattle.bristol_rows.specs.declared.answers.Made.{Made}
 use Rattle.bristol_rows.specs.declared.answers.Made.TheVariants.{Alias, Table}
 use Rattle.bristol_rows.specs.declared.answers.Row.{Row}
 use Rattle.bristol_rows.specs.declared.answers.Row.TheVariants.{Alias as RowAlias, Cell as RowCell}
-use Rattle.bristol_rows.specs.Numbers.{number}
+use Rattle.bristol_rows.specs.Numbers.{or_refuse, number}
 use Rattle.bristol_rows.specs.Header.{grouped_wire_count, header}
 use Rattle.bristol_rows.specs.Operation.{Op, same, table, operation}
 use Rattle.bristol_rows.specs.Row.{wire_number, Gate, alias, cell, gate, row_wires}
 
--- the words of a line from a place on
-abbrev pub words_from : List ℕ → ℕ → List (List ℕ)
-words_from l from = split_whitespace (stretch l from (length l - from))
-
 -- ---- the next word as a number
 
-pub record First (l : List ℕ) (from : ℕ) (x : NextNumber) : Type 0 where
-  pub word : List ℕ
-  pub is : words_from l from ≡ word ∷ words_from l x.next
-  pub reads : number_of x.number ≡ parse_usize word
-  pub on : from < x.next
-  pub within : x.next ≤ length l
-
-abbrev pub NextIs : List ℕ → ℕ → Answer NextNumber → Type 0
-NextIs l from None = words_from l from ≡ []
-NextIs l from (Some x) = First l from x
+abbrev pub first_number : List (List ℕ) → Try ℕ
+first_number [] = Err Malformed
+first_number (w ∷ ws) = number w
 
 -- ---- the header
 
@@ -80,24 +63,23 @@ counts_of none = Err NotNumber
 counts_of (some []) = Err Malformed
 counts_of (some (g ∷ ns)) = counts_after g (some ns)
 
-pub record HeadAt (x : Try Head) (rest : ℕ) (h : Head) (r : ℕ) : Type 0 where
+pub record HeadAt (x : Try Head) (h : Head) : Type 0 where
   pub is : x ≡ Ok h
-  pub rows_at : r ≡ rest
   pub fits : h.inputs + h.outputs ≤ h.wires
 
-abbrev pub HeadIs : Try Head → ℕ → Try Header → Type 0
-HeadIs x rest (Err e) = x ≡ Err e
-HeadIs x rest (Ok h) = HeadAt x rest h.head h.rest
+abbrev pub HeadIs : Try Head → Try Head → Type 0
+HeadIs x (Err e) = x ≡ Err e
+HeadIs x (Ok h) = HeadAt x h
 
-pub record HeaderAt (t : List ℕ) (h : Head) (rest : ℕ) : Type 0 where
-  pub is : header (kept_lines t) ≡ Ok h
-  pub rows_are : drop 3 (kept_lines t) ≡ kept_lines (drop rest t)
-  pub reach : rest ≤ length t + 1
+-- of the lines that were left, the rows are left
+pub record HeaderAt (ls rows : List (List ℕ)) (h : Head) : Type 0 where
+  pub is : header ls ≡ Ok h
+  pub rows_are : rows ≡ drop 3 ls
   pub fits : h.inputs + h.outputs ≤ h.wires
 
-abbrev pub HeaderIs : List ℕ → Try Header → Type 0
-HeaderIs t (Err e) = header (kept_lines t) ≡ Err e
-HeaderIs t (Ok h) = HeaderAt t h.head h.rest
+abbrev pub HeaderIs : List (List ℕ) → List (List ℕ) → Try Head → Type 0
+HeaderIs ls rows (Err e) = header ls ≡ Err e
+HeaderIs ls rows (Ok h) = HeaderAt ls rows h
 
 -- ---- the operation
 
@@ -127,16 +109,15 @@ unfoldable pub add_inputs : List ℕ → ℕ → Slots → List (List ℕ) → S
 add_inputs wires i s [] = s
 add_inputs wires i s (w ∷ ws) = add_inputs wires (suc i) (add_input wires s i (parse_usize w)) ws
 
-pub record Gathered (l : List ℕ) (from n : ℕ) (wires : List ℕ) (slots : Slots) (next : ℕ) : Type 0 where
-  pub slots_are : slots ≡ add_inputs wires 0 no_slots (take n (words_from l from))
-  pub left : words_from l next ≡ drop n (words_from l from)
-  pub enough : n ≤ length (words_from l from)
-  pub after : from ≤ next
-  pub within : next ≤ length l
+-- of the words ws the first n were read, and us are left
+pub record Gathered (n : ℕ) (wires : List ℕ) (ws us : List (List ℕ)) (slots : Slots) : Type 0 where
+  pub slots_are : slots ≡ add_inputs wires 0 no_slots (take n ws)
+  pub left : us ≡ drop n ws
+  pub enough : n ≤ length ws
 
-abbrev pub InputsAre : List ℕ → ℕ → ℕ → List ℕ → Answer Inputs → Type 0
-InputsAre l from n wires None = length (words_from l from) < n
-InputsAre l from n wires (Some x) = Gathered l from n wires x.slots x.next
+abbrev pub InputsAre : ℕ → List ℕ → List (List ℕ) → List (List ℕ) → Answer Slots → Type 0
+InputsAre n wires ws us None = length ws < n
+InputsAre n wires ws us (Some slots) = Gathered n wires ws us slots
 
 -- ---- a row
 
@@ -183,6 +164,11 @@ wires_by wires n ws = need (eqb (length ws) (n + 2)) Malformed (row_wires wires 
 -- what a row is refused with where an arity is no number
 abbrev pub invalid_arity : ℕ → List (List ℕ) → Refusal
 invalid_arity least ws = cond (ltb (length ws) least) Malformed NotNumber
+
+-- the first word as an arity, which fewer words than `least` may not follow
+abbrev pub first_arity : ℕ → List (List ℕ) → Try ℕ
+first_arity least [] = Err Malformed
+first_arity least (w ∷ ws) = or_refuse (invalid_arity least ws) (parse_usize w)
 
 -- what a row is refused with where it has not one output
 abbrev pub wrong_outputs : ℕ → ℕ → List (List ℕ) → Refusal

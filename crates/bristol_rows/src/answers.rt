@@ -1,13 +1,6 @@
 // What the calls of this crate answer.
 use circuit::records::{BoolNode, BoolWire, WireNumber};
 
-// The next word of a line, as a number if it is one, and where it ends.
-#[derive(Clone, Copy)]
-pub struct NextNumber {
-    pub number: Option<usize>,
-    pub next: usize,
-}
-
 // The widths of a group line: how many, and their sum if it is at most a limit.
 #[derive(Clone, Copy)]
 pub struct Widths {
@@ -30,13 +23,6 @@ pub struct Head {
     pub outputs: usize,
 }
 
-// The header, and where the rows begin.
-#[derive(Clone, Copy)]
-pub struct Header {
-    pub head: Head,
-    pub rest: usize,
-}
-
 // The input wires of a row: the slots of the first two, whether one of all is not driven, whether one is no number.
 // The two faults stand as flags, since each is told in its turn: the first after the output wire's, the second before.
 #[derive(Clone, Copy, Default)]
@@ -45,13 +31,6 @@ pub struct Slots {
     pub second: usize,
     pub undriven: bool,
     pub invalid: bool,
-}
-
-// The input wires, and where their words end.
-#[derive(Clone, Copy)]
-pub struct Inputs {
-    pub slots: Slots,
-    pub next: usize,
 }
 
 // What an operation makes: its input, or a cell with a table.

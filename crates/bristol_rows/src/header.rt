@@ -1,15 +1,17 @@
 // The three lines of the header.
-ghost use Rattle.std.specs.Prelude.{◌≡◌, ◌+◌, ◌≤◌, length, Some};
-ghost use Rattle.laws.specs.Stretches.{stretch};
+ghost use Rattle.std.specs.Prelude.{◌≡◌, Some};
 ghost use Rattle.text.specs.Words.{split_whitespace};
 ghost use Rattle.text.specs.Numbers.{parse_each};
+ghost use Rattle.text.specs.Iterators.{kept_left};
 ghost use Rattle.bristol_rows.specs.Header.{group_lines};
-ghost use Rattle.bristol_rows.specs.Promises.{words_from, add_to, widths_of, group_of, counts_after, counts_of, HeadIs, HeaderIs};
+ghost use Rattle.bristol_rows.specs.Words.{words_left};
+ghost use Rattle.bristol_rows.specs.Promises.{add_to, widths_of, group_of, counts_of, HeadIs, HeaderIs};
 
-use crate::answers::{Counts, Head, Header, Widths};
-use crate::numbers::next_number;
+use crate::answers::{Counts, Head, Widths};
+use crate::numbers::{next_number, read_number};
+use crate::words::{LineWords, split_whitespace};
 use circuit::refusals::Refusal;
-use text::lines::{Line, next_line};
+use text::lines::KeptLines;
 
 // A sum and one number more; none where one of them is above the limit.
 pub fn add_to(sum: Option<usize>, n: usize, limit: usize) -> Option<usize>
@@ -20,18 +22,14 @@ pub fn add_to(sum: Option<usize>, n: usize, limit: usize) -> Option<usize>
 }
 
 // The numbers of a line's rest: how many, and their sum.
-pub fn read_widths(line: &[u8], from: usize, limit: usize) -> Result<Widths, Refusal>
-    requires { from ≤ length line.now }
-    ensures { result ≡ widths_of limit 0 (Some 0) (parse_each (words_from line.now from)) }
+pub fn read_widths(words: LineWords, limit: usize) -> Result<Widths, Refusal>
+    ensures { result ≡ widths_of limit 0 (Some 0) (parse_each (words_left words.entry)) }
 {
-    let mut at = from;
     let mut count = 0;
     let mut sum = Some(0);
-    // No range: each number says where the next one may start.
-    while let Some(x) = next_number(line, at) {
-        sum = add_to(sum, x.number.ok_or(Refusal::NotNumber)?, limit);
+    for word in words {
+        sum = add_to(sum, read_number(word)?, limit);
         count += 1;
-        at = x.next;
     }
     Ok(Widths { count, sum })
 }
@@ -40,11 +38,12 @@ pub fn read_widths(line: &[u8], from: usize, limit: usize) -> Result<Widths, Ref
 pub fn grouped_wire_count(line: &[u8], limit: usize) -> Result<Option<usize>, Refusal>
     ensures { result ≡ group_of limit (parse_each (split_whitespace line.now)) }
 {
-    let Some(x) = next_number(line, 0) else {
+    let mut words = split_whitespace(line);
+    let Some(first) = words.next() else {
         return Ok(None);
     };
-    let groups = x.number.ok_or(Refusal::NotNumber)?;
-    let widths = read_widths(line, x.next, limit)?;
+    let groups = read_number(first)?;
+    let widths = read_widths(words, limit)?;
     Ok(if groups == widths.count {
         widths.sum
     } else {
@@ -52,78 +51,45 @@ pub fn grouped_wire_count(line: &[u8], limit: usize) -> Result<Option<usize>, Re
     })
 }
 
-// The first line, after the number of gates.
-pub fn read_wires(line: &[u8], from: usize, gates: usize) -> Result<Counts, Refusal>
-    requires { from ≤ length line.now }
-    ensures { result ≡ counts_after gates (parse_each (words_from line.now from)) }
+// The first line: two numbers. Words after them are malformed, but one that is no number is told first.
+pub fn read_counts(line: &[u8]) -> Result<Counts, Refusal>
+    ensures { result ≡ counts_of (parse_each (split_whitespace line.now)) }
 {
-    let x = next_number(line, from).ok_or(Refusal::Malformed)?;
-    let wires = x.number.ok_or(Refusal::NotNumber)?;
-    let more = read_widths(line, x.next, 0)?;
+    let mut words = split_whitespace(line);
+    let gates = next_number(&mut words)?;
+    let wires = next_number(&mut words)?;
+    let more = read_widths(words, 0)?;
     if more.count != 0 {
         return Err(Refusal::Malformed);
     }
     Ok(Counts { gates, wires })
 }
 
-// The first line: two numbers.
-pub fn read_counts(line: &[u8]) -> Result<Counts, Refusal>
-    ensures { result ≡ counts_of (parse_each (split_whitespace line.now)) }
+// The group lines, once the counts are known.
+pub fn read_groups(b: &[u8], c: &[u8], counts: Counts) -> Result<Head, Refusal>
+    ensures { HeadIs (group_lines counts.gates counts.wires b.now c.now) result }
 {
-    let x = next_number(line, 0).ok_or(Refusal::Malformed)?;
-    let gates = x.number.ok_or(Refusal::NotNumber)?;
-    read_wires(line, x.next, gates)
-}
-
-// The group lines, once the counts are known; `rest` is where the rows begin.
-pub fn read_groups(
-    b: &[u8],
-    c: &[u8],
-    gates: usize,
-    wires: usize,
-    rest: usize,
-) -> Result<Header, Refusal>
-    ensures { HeadIs (group_lines gates wires b.now c.now) rest result }
-{
+    let Counts { gates, wires } = counts;
     let inputs = grouped_wire_count(b, wires)?;
     let outputs = grouped_wire_count(c, wires - inputs.unwrap_or(0))?;
     let (Some(inputs), Some(outputs)) = (inputs, outputs) else {
         return Err(Refusal::HeaderMismatch);
     };
-    let head = Head {
+    Ok(Head {
         gates,
         wires,
         inputs,
         outputs,
-    };
-    Ok(Header { head, rest })
+    })
 }
 
-// The bytes of a line of a text.
-#[tactic(auto, unfolding(laws::specs::Stretches::stretch))]
-pub fn line_bytes(text: &[u8], line: Line) -> &[u8]
-    requires { line.start + line.len ≤ length text.now }
-    ensures { result.now ≡ stretch text.now line.start line.len }
+// The header: the first three lines of those that are left.
+pub fn read_header(lines: &mut KeptLines) -> Result<Head, Refusal>
+    ensures { HeaderIs (kept_left lines.old) (kept_left lines.new) result }
 {
-    &text[line.start..line.start + line.len]
-}
-
-// The header of a text.
-pub fn read_header(text: &[u8]) -> Result<Header, Refusal>
-    ensures { HeaderIs text.now result }
-{
-    let a = next_line(text, 0);
-    let b = next_line(text, a.next);
-    let c = next_line(text, b.next);
-    if a.len == 0 || b.len == 0 || c.len == 0 {
+    let (Some(a), Some(b), Some(c)) = (lines.next(), lines.next(), lines.next()) else {
         return Err(Refusal::Malformed);
-    }
-    let Counts { gates, wires } = read_counts(line_bytes(text, a))?;
-    read_groups(
-        line_bytes(text, b),
-        line_bytes(text, c),
-        gates,
-        wires,
-        c.next,
-    )
+    };
+    let counts = read_counts(a)?;
+    read_groups(b, c, counts)
 }

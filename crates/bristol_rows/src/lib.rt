@@ -7,3 +7,4 @@ pub mod header;
 pub mod numbers;
 pub mod operation;
 pub mod row;
+pub mod words;

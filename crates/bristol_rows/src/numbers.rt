@@ -1,22 +1,25 @@
-// The words of a line, read as numbers one after the other.
-ghost use Rattle.std.specs.Prelude.{◌≤◌, length};
-ghost use Rattle.bristol_rows.specs.Promises.{NextIs};
+// Words read as numbers.
+ghost use Rattle.std.specs.Prelude.{◌≡◌, drop};
+ghost use Rattle.bristol_rows.specs.Words.{words_left};
+ghost use Rattle.bristol_rows.specs.Numbers.{number};
+ghost use Rattle.bristol_rows.specs.Promises.{first_number};
 
-use crate::answers::NextNumber;
+use crate::words::LineWords;
+use circuit::refusals::Refusal;
 use text::numbers::parse_usize;
-use text::words::next_word;
 
-// The next word of a line from a place on, as a number.
-pub fn next_number(line: &[u8], from: usize) -> Option<NextNumber>
-    requires { from ≤ length line.now }
-    ensures { NextIs line.now from result }
+// A word's number.
+#[tactic(auto, unfolding(crate::specs::Numbers::number))]
+pub fn read_number(word: &[u8]) -> Result<usize, Refusal>
+    ensures { result ≡ number word.now }
 {
-    let word = next_word(line, from, line.len());
-    if word.len == 0 {
-        return None;
-    }
-    Some(NextNumber {
-        number: parse_usize(line, word),
-        next: word.start + word.len,
-    })
+    parse_usize(word).ok_or(Refusal::NotNumber)
+}
+
+// The next word's number; malformed where no word is left.
+pub fn next_number(words: &mut LineWords) -> Result<usize, Refusal>
+    ensures { (result ≡ first_number (words_left words.old)) × (words_left words.new ≡ drop 1 (words_left words.old)) }
+{
+    let word = words.next().ok_or(Refusal::Malformed)?;
+    read_number(word)
 }

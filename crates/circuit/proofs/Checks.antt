@@ -4,7 +4,7 @@ use Rattle.std.specs.Prelude.{Err, Ok}
 use mathlib.Core.Path.{◌≡◌, refl, sym, ap, ap₂, ◌∙◌, subst}
 use mathlib.Core.List.{List, [], ◌∷◌}
 use mathlib.Core.Bool.{Bool, true, false, cond, ◌&&◌, ◌||◌}
-use Prim.Native.Nat.{ℕ, zero, suc, ◌+◌, ◌-◌, ◌*◌, ◌/◌, ◌%◌, ◌≤◌, ◌<◌, min}
+use Prim.Native.Nat.{ℕ, zero, suc, ◌+◌, ◌-◌, ◌/◌, ◌%◌, ◌≤◌, ◌<◌, min}
 use native.Mathlib.Nat.{zero-add}
 use native.Mathlib.Numerals.{add-one}
 use native.Mathlib.Omega.{arith}
@@ -22,9 +22,9 @@ use Rattle.circuit.specs.declared.records.BoolWire.{BoolWire}
 use Rattle.circuit.specs.declared.records.BoolWire.TheVariants.{Const, Node}
 use Rattle.circuit.specs.declared.records.BoolNode.{BoolNode}
 use Rattle.circuit.specs.Refusals.{refuse_if, first_fault}
-use Rattle.circuit.specs.Records.{no_wire, no_node, node_at, NodeIs, nodes_of, is_cell_node, slots, wires_of}
+use Rattle.circuit.specs.Records.{no_wire, no_node, node_at, nodes_of, is_cell_node, slots, wires_of}
 use Rattle.circuit.specs.Check.{cell_broken, record_broken, not_below, some_not_below, check_wires, check_node, check_nodes, check_circuit, some_broken, circuit_broken, whole, nodes_in, wires_in, topological_fault, records_fault}
-use Rattle.circuit.proofs.Codes.{node_is, length_nodes}
+use Rattle.circuit.proofs.Codes.{length_nodes}
 
 -- ---- the first fault of two checks
 
@@ -118,12 +118,12 @@ pub scan_end : (a : List ℕ) (m i : ℕ) → m ≤ i → rest a m i ≡ Ok tt
 unfolding check_nodes
 scan_end a m i h = rw (up_none (node_at a) i m h)
 
-module _ (a : List ℕ) (m i : ℕ) (h : i < m) (n : BoolNode) (e : NodeIs a (i * 9) n) where
+module _ (a : List ℕ) (m i : ℕ) (h : i < m) (n : BoolNode) (e : n ≡ node_at a i) where
   turn : rest a m i ≡ first_fault (check_node m i n) (rest a m (i + 1))
   unfolding check_nodes
   turn =
       ap (check_nodes m i) (up_more (node_at a) i m h)
-      ∙ ap₂ (λ (x : BoolNode) (j : ℕ). first_fault (check_node m i x) (check_nodes m j (up_from (node_at a) (i + 1) (m - (i + 1))))) (sym (node_is a i e)) (sym (add-one i))
+      ∙ ap₂ (λ (x : BoolNode) (j : ℕ). first_fault (check_node m i x) (check_nodes m j (up_from (node_at a) (i + 1) (m - (i + 1))))) (sym e) (sym (add-one i))
 
   pub scan_fault : (r : Refusal) → check_node m i n ≡ Err r → rest a m i ≡ Err r
   scan_fault r q = rw (turn, q)

@@ -10,8 +10,8 @@ use native.Mathlib.Omega.{arith}
 use lib.Dec.{leb}
 use lib.ListN.{length, get_or}
 use borrow.Author.Tests.{leb-false}
+use Rattle.std.proofs.lemmas.Bool.{or_parts}
 use Rattle.laws.specs.Lists.{elem}
-use Rattle.laws.proofs.Tests.{neither}
 use Rattle.laws.proofs.Lists.{elem-cons-split}
 use Rattle.circuit.specs.declared.records.BoolWire.{BoolWire}
 use Rattle.circuit.specs.declared.records.BoolWire.TheVariants.{Const, Node}
@@ -50,7 +50,7 @@ pub read_below : (k y : ℕ) (ws : List BoolWire) → some_not_below k ws ≡ fa
 unfolding nodes_read
 read_below k y [] e h = absurd (false≢true h)
 read_below k y (Const b ∷ ws) e h = read_below k y ws e h
-read_below k y (Node n ∷ ws) e h = fork (neither (leb k n.0) (some_not_below k ws) e) (elem-cons-split y n.0 (nodes_read ws) h) (read_below k y ws)
+read_below k y (Node n ∷ ws) e h = fork (or_parts (leb k n.0) (some_not_below k ws) e) (elem-cons-split y n.0 (nodes_read ws) h) (read_below k y ws)
   where
     fork : (leb k n.0 ≡ false) × (some_not_below k ws ≡ false) → (y ≡ n.0) ⊎ (elem y (nodes_read ws) ≡ true)
         → (some_not_below k ws ≡ false → elem y (nodes_read ws) ≡ true → y < k) → y < k

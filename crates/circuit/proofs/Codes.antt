@@ -1,10 +1,10 @@
 -- Records and their words: the two ways of a code, and what an area of records holds.
 -- Assumes nothing.
-use mathlib.Core.Path.{◌≡◌, refl, sym, ap, ◌∙◌}
+use mathlib.Core.Path.{◌≡◌, refl, ap, ◌∙◌}
 use mathlib.Core.List.{List, [], ◌∷◌, ◌++◌, map}
 use mathlib.Core.Bool.{true, false}
 use Prim.Native.Nat.{ℕ, zero, suc, ◌+◌, ◌-◌, ◌*◌, ◌<◌}
-use native.Mathlib.Nat.{add-zero, zero-add}
+use native.Mathlib.Nat.{zero-add}
 use native.Mathlib.Numerals.{add-two}
 use native.Mathlib.Omega.{arith}
 use lib.ListN.{get_or, length, replicate}
@@ -15,7 +15,7 @@ use Rattle.circuit.specs.declared.records.Name.{Name}
 use Rattle.circuit.specs.declared.records.Name.TheVariants.{Stretch, Step, Number}
 use Rattle.circuit.specs.declared.records.BoolNode.{BoolNode}
 use Rattle.circuit.specs.declared.records.Output.{Output}
-use Rattle.circuit.specs.Records.{no_node, encode_output, output_from, output_at, OutputIs, nodes_of, outputs_of, output_wire, output_wires, wire_word, wire_of, name_words, name_from, encode_node, node_from, node_at, NodeIs}
+use Rattle.circuit.specs.Records.{no_node, encode_output, output_from, output_at, nodes_of, outputs_of, output_wire, output_wires, wire_word, wire_of, name_words, name_from, encode_node, node_from, node_at}
 use Rattle.laws.specs.Areas.{encodes, stored}
 use Rattle.laws.specs.Areas.{up_from}
 use Rattle.laws.proofs.Storing.{list_of, more_list, more_clean, up_at}
@@ -44,18 +44,6 @@ name_back (Step s l k) = refl
 name_back (Number w) = refl
 
 -- ---- the two ways of a node's code
-
-pub node_is : (a : List ℕ) (k : ℕ) {n : BoolNode} → NodeIs a (k * 9) n → n ≡ node_at a k
-node_is a k h =
-    let zeroth = h.kind_is ∙ ap (λ (j : ℕ). get_or a j 0) (sym (add-zero (k * 9))) in
-    λ i. record {
-      kind = zeroth i;
-      count = h.count_is i;
-      table = h.table_is i;
-      name = h.name_is i;
-      first = h.first_is i;
-      second = h.second_is i;
-    }
 
 name_list : (n : Name) (l : List ℕ)
     → get_or (name_words n) 0 0 ∷ get_or (name_words n) 1 0 ∷ get_or (name_words n) 2 0 ∷ get_or (name_words n) 3 0 ∷ l ≡ name_words n ++ l
@@ -102,12 +90,6 @@ pub node_of_area : (ns : List BoolNode) (rest : List ℕ) (d : BoolNode) (i : �
 node_of_area ns rest d i h = record-at encode_node 9 node_wide node_from node_back ns rest d i h
 
 -- ---- the same of an output
-
-pub output_is : (a : List ℕ) (k : ℕ) {o : Output} → OutputIs a (k * 5) o → o ≡ output_at a k
-output_is a k h =
-    let zeroth : name_from (get_or a (k * 5) 0) (get_or a (k * 5 + 1) 0) (get_or a (k * 5 + 2) 0) (get_or a (k * 5 + 3) 0) ≡ name_from (get_or a (k * 5 + 0) 0) (get_or a (k * 5 + 1) 0) (get_or a (k * 5 + 2) 0) (get_or a (k * 5 + 3) 0) = ap (λ (j : ℕ). name_from (get_or a j 0) (get_or a (k * 5 + 1) 0) (get_or a (k * 5 + 2) 0) (get_or a (k * 5 + 3) 0)) (sym (add-zero (k * 5))) in
-    let named : _ ≡ name_from (get_or a (k * 5 + 0) 0) (get_or a (k * 5 + 1) 0) (get_or a (k * 5 + 2) 0) (get_or a (k * 5 + 3) 0) = h.name_is ∙ zeroth in
-    λ i. record { name = named i; wire = h.wire_is i }
 
 pub output_list : (o : Output) (w : List ℕ) (f : ℕ) → w ≡ name_words o.name → f ≡ wire_word o.wire
     → get_or w 0 0 ∷ get_or w 1 0 ∷ get_or w 2 0 ∷ get_or w 3 0 ∷ f ∷ [] ≡ encode_output o

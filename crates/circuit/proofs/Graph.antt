@@ -9,9 +9,11 @@ use native.Mathlib.Omega.{arith}
 use lib.Dec.{ltb}
 use lib.ListN.{length, get_or-eq_default}
 use borrow.Author.Tests.{ltb-true, ltb-false, ne_eqb, not-true}
+use Rattle.std.proofs.lemmas.Bool.{and_from, and_parts, false_from_ne_true, true_from_ne_false}
+use Rattle.std.proofs.lemmas.List.{nil_from_length}
 use Rattle.laws.specs.Lists.{elem, numbers}
-use Rattle.laws.proofs.Tests.{and-true, and_makes, clash, true_of, false_of}
-use Rattle.laws.proofs.Lists.{elem_snoc_same, elem_snoc_other, elem-cons-split, elem_snoc_split, numbers_in, numbers-none, numbers_same, one_less, numbers-empty, empty_of_length, elem-later, elem_here}
+use Rattle.laws.proofs.Tests.{clash}
+use Rattle.laws.proofs.Lists.{elem_snoc_same, elem_snoc_other, elem-cons-split, elem_snoc_split, numbers_in, numbers-none, numbers_same, one_less, numbers-empty, elem-later, elem_here}
 use Rattle.circuit.specs.Graph.{Vertex, outside, is_cell, reads_of, cells_of, waits, free, ready, ready_cells, fit, Reads, Leads, once, more, Circle, Forward, Placed, InOrder, ListsAll}
 
 module _ (c : List Vertex) where
@@ -27,29 +29,29 @@ module _ (c : List Vertex) where
 
   pub waits-cell : (taken : List ℕ) (k : ℕ) → waits c taken k ≡ true → is_cell c k ≡ true
   unfolding waits
-  waits-cell taken k h = (and-true (is_cell c k) (not (elem k taken)) h).0
+  waits-cell taken k h = (and_parts (is_cell c k) (not (elem k taken)) h).0
 
   pub waits_fresh : (taken : List ℕ) (k : ℕ) → waits c taken k ≡ true → elem k taken ≡ false
   unfolding waits
-  waits_fresh taken k h = not-true (elem k taken) (and-true (is_cell c k) (not (elem k taken)) h).1
+  waits_fresh taken k h = not-true (elem k taken) (and_parts (is_cell c k) (not (elem k taken)) h).1
 
   pub waits_makes : (taken : List ℕ) (k : ℕ) → is_cell c k ≡ true → elem k taken ≡ false → waits c taken k ≡ true
   unfolding waits
   waits_makes taken k p q = rw (p, q)
 
   pub waits_taken : (taken : List ℕ) (k : ℕ) → elem k taken ≡ true → waits c taken k ≡ false
-  waits_taken taken k h = false_of (waits c taken k) (λ w. clash h (waits_fresh taken k w))
+  waits_taken taken k h = false_from_ne_true (waits c taken k) (λ w. clash h (waits_fresh taken k w))
 
   pub taken_of : (taken : List ℕ) (k : ℕ) → is_cell c k ≡ true → waits c taken k ≡ false → elem k taken ≡ true
-  taken_of taken k p w = true_of (elem k taken) (λ q. clash (waits_makes taken k p q) w)
+  taken_of taken k p w = true_from_ne_false (elem k taken) (λ q. clash (waits_makes taken k p q) w)
 
   pub ready-waits : (taken : List ℕ) (k : ℕ) → ready c taken k ≡ true → waits c taken k ≡ true
   unfolding ready
-  ready-waits taken k h = (and-true (waits c taken k) (free c taken (reads_of c k)) h).0
+  ready-waits taken k h = (and_parts (waits c taken k) (free c taken (reads_of c k)) h).0
 
   pub ready-free : (taken : List ℕ) (k : ℕ) → ready c taken k ≡ true → free c taken (reads_of c k) ≡ true
   unfolding ready
-  ready-free taken k h = (and-true (waits c taken k) (free c taken (reads_of c k)) h).1
+  ready-free taken k h = (and_parts (waits c taken k) (free c taken (reads_of c k)) h).1
 
   pub ready_makes : (taken : List ℕ) (k : ℕ) → waits c taken k ≡ true → free c taken (reads_of c k) ≡ true → ready c taken k ≡ true
   unfolding ready
@@ -58,7 +60,7 @@ module _ (c : List Vertex) where
   pub free_at : (taken rs : List ℕ) (y : ℕ) → free c taken rs ≡ true → elem y rs ≡ true → waits c taken y ≡ false
   unfolding free
   free_at taken [] y f h = absurd (false≢true h)
-  free_at taken (r ∷ rs) y f h = fork (elem-cons-split y r rs h) (and-true (not (waits c taken r)) (free c taken rs) f) (free_at taken rs y)
+  free_at taken (r ∷ rs) y f h = fork (elem-cons-split y r rs h) (and_parts (not (waits c taken r)) (free c taken rs) f) (free_at taken rs y)
     where
       fork : (y ≡ r) ⊎ (elem y rs ≡ true) → (not (waits c taken r) ≡ true) × (free c taken rs ≡ true) → (free c taken rs ≡ true → elem y rs ≡ true → waits c taken y ≡ false) → waits c taken y ≡ false
       fork (inl e) g below = ap (waits c taken) e ∙ not-true (waits c taken r) g.0
@@ -90,19 +92,19 @@ module _ (c : List Vertex) where
 
   pub fit_at : (taken before rest : List ℕ) (x : ℕ) → fit c taken (before ++ x ∷ rest) ≡ true → ready c (taken ++ before) x ≡ true
   unfolding fit
-  fit_at taken [] rest x h = rw append-nil (and-true (ready c taken x) (fit c (taken ++ x ∷ []) rest) h).0
+  fit_at taken [] rest x h = rw append-nil (and_parts (ready c taken x) (fit c (taken ++ x ∷ []) rest) h).0
   fit_at taken (b ∷ before) rest x h =
-      rw append_assoc at (fit_at (taken ++ b ∷ []) before rest x (and-true (ready c taken b) (fit c (taken ++ b ∷ []) (before ++ x ∷ rest)) h).1)
+      rw append_assoc at (fit_at (taken ++ b ∷ []) before rest x (and_parts (ready c taken b) (fit c (taken ++ b ∷ []) (before ++ x ∷ rest)) h).1)
 
   pub fit_in_order : (order : List ℕ) → fit c [] order ≡ true → InOrder c order
   fit_in_order order h before rest x e = ready_placed before x (fit_at [] before rest x (ap (fit c []) (sym e) ∙ h))
 
   pub fit_snoc : (taken l : List ℕ) (p : ℕ) → fit c taken l ≡ true → ready c (taken ++ l) p ≡ true → fit c taken (l ++ p ∷ []) ≡ true
   unfolding fit
-  fit_snoc taken [] p f r = and_makes _ _ (rw append-nil at r) refl
+  fit_snoc taken [] p f r = and_from _ _ (rw append-nil at r) refl
   fit_snoc taken (x ∷ l) p f r =
-      let g = and-true (ready c taken x) (fit c (taken ++ x ∷ []) l) f in
-      and_makes _ _ g.0 (fit_snoc (taken ++ x ∷ []) l p g.1 (rw append_assoc r))
+      let g = and_parts (ready c taken x) (fit c (taken ++ x ∷ []) l) f in
+      and_from _ _ g.0 (fit_snoc (taken ++ x ∷ []) l p g.1 (rw append_assoc r))
 
   -- how many cells are left
   unfoldable pub left : List ℕ → ℕ
@@ -118,7 +120,7 @@ module _ (c : List Vertex) where
 
   pub left_none : (taken : List ℕ) → left taken ≡ 0 → (k : ℕ) → waits c taken k ≡ false
   unfolding left
-  left_none taken e k = false_of (waits c taken k) (λ w. clash w (numbers-none (waits c taken) (length c) k (empty_of_length _ e) (cell_below k (waits-cell taken k w))))
+  left_none taken e k = false_from_ne_true (waits c taken k) (λ w. clash w (numbers-none (waits c taken) (length c) k (nil_from_length _ e) (cell_below k (waits-cell taken k w))))
 
   pub left_some : (taken : List ℕ) → left taken ≢ 0 → (x : ℕ) × (waits c taken x ≡ true)
   unfolding left
@@ -132,13 +134,13 @@ module _ (c : List Vertex) where
   unfolding fit
   left_fit taken [] h = rw append-nil (omega arith)
   left_fit taken (x ∷ xs) h =
-      let g = and-true (ready c taken x) (fit c (taken ++ x ∷ []) xs) h in
+      let g = and_parts (ready c taken x) (fit c (taken ++ x ∷ []) xs) h in
       omega (arith, left_step taken x (ready-waits taken x g.0), rw append_assoc at (left_fit (taken ++ x ∷ []) xs g.1))
 
   pub lists_left : (order : List ℕ) → ListsAll c order → left order ≡ 0
   unfolding left
   lists_left order h =
-      ap length (numbers-empty (waits c order) 0 (length c) (λ k a b. false_of (waits c order k) (λ w. clash (h k (waits-cell order k w)) (waits_fresh order k w))))
+      ap length (numbers-empty (waits c order) 0 (length c) (λ k a b. false_from_ne_true (waits c order k) (λ w. clash (h k (waits-cell order k w)) (waits_fresh order k w))))
 
   pub left_start : left [] ≡ length (cells_of c)
   unfolding left cells_of waits
@@ -153,7 +155,7 @@ module _ (c : List Vertex) where
 
   pub none-ready : (taken : List ℕ) → ((k : ℕ) → waits c taken k ≡ false) → ready_cells c taken ≡ []
   unfolding ready_cells
-  none-ready taken h = numbers-empty (ready c taken) 0 (length c) (λ k a b. false_of (ready c taken k) (λ r. clash (ready-waits taken k r) (h k)))
+  none-ready taken h = numbers-empty (ready c taken) 0 (length c) (λ k a b. false_from_ne_true (ready c taken k) (λ r. clash (ready-waits taken k r) (h k)))
 
   -- where nothing is ready, each cell that waits reads one that waits
   pub stuck : (taken : List ℕ) → ready_cells c taken ≡ [] → (x : ℕ) → waits c taken x ≡ true → (y : ℕ) × Reads c x y × (waits c taken y ≡ true)
@@ -161,7 +163,7 @@ module _ (c : List Vertex) where
   stuck taken e x w =
       let isc = waits-cell taken x w in
       let nr = numbers-none (ready c taken) (length c) x e (cell_below x isc) in
-      let f = free-not taken (reads_of c x) (false_of (free c taken (reads_of c x)) (λ t. clash (ready_makes taken x w t) nr)) in
+      let f = free-not taken (reads_of c x) (false_from_ne_true (free c taken (reads_of c x)) (λ t. clash (ready_makes taken x w t) nr)) in
       (f.0, record { reader = isc; source = waits-cell taken f.0 f.2; among = f.1 }, f.2)
 
   pub leads_on : {x y z : ℕ} → Leads c x y → Reads c y z → Leads c x z
@@ -218,7 +220,7 @@ module _ (c : List Vertex) where
   walk : (taken : List ℕ) → ready_cells c taken ≡ [] → (fuel : ℕ) → Walked taken fuel
   unfolding Walked unseen
   walk taken e zero seen x w l fresh h =
-      absurd (clash (ap not fresh) (numbers-none (unseen seen) (length c) x (empty_of_length _ (omega arith)) (cell_below x (waits-cell taken x w))))
+      absurd (clash (ap not fresh) (numbers-none (unseen seen) (length c) x (nil_from_length _ (omega arith)) (cell_below x (waits-cell taken x w))))
   walk taken e (suc fuel) seen x w l fresh h = walk_on taken fuel e (walk taken e fuel) seen x w l fresh h
 
   pub waiting_circle : (taken : List ℕ) → ready_cells c taken ≡ [] → (x : ℕ) → waits c taken x ≡ true → Circle c
@@ -230,11 +232,11 @@ module _ (c : List Vertex) where
   unfolding fit
   circle_waits taken [] h off z l = rw append-nil (off z l)
   circle_waits taken (x ∷ xs) h off z l =
-      let g = and-true (ready c taken x) (fit c (taken ++ x ∷ []) xs) h in
+      let g = and_parts (ready c taken x) (fit c (taken ++ x ∷ []) xs) h in
       rw append_assoc at (circle_waits (taken ++ x ∷ []) xs g.1 (still (ready_placed taken x g.0)) z l)
     where
       still : Placed c taken x → (y : ℕ) → Leads c y y → elem y (taken ++ x ∷ []) ≡ false
-      still q y m = false_of (elem y (taken ++ x ∷ [])) (λ t. fork (elem_snoc_split y x taken t))
+      still q y m = false_from_ne_true (elem y (taken ++ x ∷ [])) (λ t. fork (elem_snoc_split y x taken t))
         where
           fork : (y ≡ x) ⊎ (elem y taken ≡ true) → ⊥
           fork (inl e) = let r = leads_round m in clash (q.after r.0 (subst (λ (k : ℕ). Reads c k r.0) e r.1)) (off r.0 r.2)

@@ -4,4 +4,5 @@ pub mod Graph
 pub mod Circuits
 pub mod Sitting
 pub mod Tries
+pub mod Scans
 pub mod Examples

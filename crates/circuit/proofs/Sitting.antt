@@ -9,7 +9,7 @@ use native.Mathlib.Nat.{add-zero}
 use native.Mathlib.Omega.{arith}
 use borrow.Author.Tests.{eq-eqb, ne_eqb, lt-leb}
 use lib.ListN.{length}
-use Rattle.laws.proofs.Tests.{neither}
+use Rattle.std.proofs.lemmas.Bool.{or_parts}
 use Rattle.circuit.specs.declared.records.BoolWire.{BoolWire}
 use Rattle.circuit.specs.declared.records.BoolNode.{BoolNode}
 use Rattle.circuit.specs.Records.{wire_of, wires_of}
@@ -36,8 +36,8 @@ wires_checked : (m i : ℕ) (ws : List BoolWire) → some_not_below m ws ≡ fal
 unfolding check_wires
 wires_checked m i [] p q = refl
 wires_checked m i (w ∷ ws) p q =
-    let a = neither (not_below m w) (some_not_below m ws) p in
-    let b = neither (not_below i w) (some_not_below i ws) q in
+    let a = or_parts (not_below m w) (some_not_below m ws) p in
+    let b = or_parts (not_below i w) (some_not_below i ws) q in
     rw (a.0, b.0) (wires_checked m i ws a.1 b.1)
 
 nodes_checked : (m i : ℕ) (ns : List BoolNode) → i + length ns ≤ m → AllSit i ns → check_nodes m i ns ≡ Ok tt

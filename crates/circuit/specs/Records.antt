@@ -1,6 +1,6 @@
 -- Circuit records as lists of words, and back; a node's wires.
 -- Assumes nothing.
-use Rattle.std.specs.Prelude.{◌≡◌, Bool, true, false, cond, List, [], ◌∷◌, ◌++◌, ℕ, zero, suc, ◌+◌, ◌*◌, eqb, get_or, take}
+use Rattle.std.specs.Prelude.{Bool, true, false, cond, List, [], ◌∷◌, ◌++◌, ℕ, zero, suc, ◌+◌, ◌*◌, eqb, get_or, take}
 use Rattle.laws.specs.Areas.{up_from}
 use Rattle.circuit.specs.declared.records.BoolWire.{BoolWire}
 use Rattle.circuit.specs.declared.records.BoolWire.TheVariants.{Const, Node}
@@ -40,6 +40,10 @@ name_from (suc (suc (suc t))) a b c = Number (record { 0 = a })
 abbrev pub encode_node : BoolNode → List ℕ
 encode_node n = n.kind ∷ n.count ∷ n.table ∷ (name_words n.name ++ (wire_word n.first ∷ wire_word n.second ∷ []))
 
+-- an input's record: kind 1, and no other word but its name
+abbrev pub input_node : Name → BoolNode
+input_node name = record { kind = 1; count = 0; table = 0; name = name; first = no_wire; second = no_wire }
+
 -- a node from its words, by their places in the record
 abbrev pub node_from : (ℕ → ℕ) → BoolNode
 node_from f = record {
@@ -55,15 +59,6 @@ node_from f = record {
 abbrev pub node_at : List ℕ → ℕ → BoolNode
 node_at a i = node_from (λ j. get_or a (i * 9 + j) 0)
 
--- n is the node whose words begin at `at`, field by field
-pub record NodeIs (a : List ℕ) (at : ℕ) (n : BoolNode) : Type 0 where
-  pub kind_is : n.kind ≡ get_or a at 0
-  pub count_is : n.count ≡ get_or a (at + 1) 0
-  pub table_is : n.table ≡ get_or a (at + 2) 0
-  pub name_is : n.name ≡ name_from (get_or a (at + 3) 0) (get_or a (at + 4) 0) (get_or a (at + 5) 0) (get_or a (at + 6) 0)
-  pub first_is : n.first ≡ wire_of (get_or a (at + 7) 0)
-  pub second_is : n.second ≡ wire_of (get_or a (at + 8) 0)
-
 -- an output: name, wire
 abbrev pub encode_output : Output → List ℕ
 encode_output o = name_words o.name ++ (wire_word o.wire ∷ [])
@@ -74,10 +69,6 @@ output_from f = record { name = name_from (f 0) (f 1) (f 2) (f 3); wire = wire_o
 -- the output of record j
 abbrev pub output_at : List ℕ → ℕ → Output
 output_at a j = output_from (λ k. get_or a (j * 5 + k) 0)
-
-pub record OutputIs (a : List ℕ) (at : ℕ) (o : Output) : Type 0 where
-  pub name_is : o.name ≡ name_from (get_or a at 0) (get_or a (at + 1) 0) (get_or a (at + 2) 0) (get_or a (at + 3) 0)
-  pub wire_is : o.wire ≡ wire_of (get_or a (at + 4) 0)
 
 -- the first m records of an area
 abbrev pub nodes_of : List ℕ → ℕ → List BoolNode

@@ -1,9 +1,18 @@
 // Areas: a record stored in its place.
-ghost use Rattle.std.specs.Prelude.{◌≡◌, ◌+◌, ◌*◌, ◌^◌, ◌<◌, ◌≤◌, length};
+ghost use Rattle.std.specs.Prelude.{◌≡◌, ◌+◌, ◌*◌, ◌^◌, ◌<◌, ◌≤◌, length, replicate};
 ghost use Rattle.laws.specs.Areas.{stored, capacity};
 ghost use Rattle.circuit.specs.Records.{wire_word, encode_node, encode_output};
 
 use crate::records::{BoolNode, Output, node_words, output_words};
+
+// Zeros in three areas: a call that refuses leaves this in what it was lent for writing.
+pub fn clear_all(first: &mut [usize], second: &mut [usize], third: &mut [usize])
+    ensures { (first.new ≡ replicate (length first.old) 0) × (second.new ≡ replicate (length second.old) 0) × (third.new ≡ replicate (length third.old) 0) }
+{
+    first.fill(0);
+    second.fill(0);
+    third.fill(0);
+}
 
 // How many records of a width an area of so many words takes.
 pub fn records_in(words: usize, width: usize) -> usize

@@ -3,7 +3,8 @@ ghost use Rattle.std.specs.Prelude.{◌≡◌, ◌+◌, ◌*◌, ◌≤◌, leng
 ghost use Rattle.circuit.specs.Records.{wires_of, nodes_of, output_wires};
 ghost use Rattle.circuit.specs.Check.{not_below, some_not_below, record_broken, check_nodes, check_node, node_broken, some_broken, whole, topological_fault, records_fault};
 
-use crate::records::{BoolNode, BoolWire, node_at, wire_at, wire_count};
+use crate::nodes::{Nodes, Outputs};
+use crate::records::{BoolNode, BoolWire, wire_at, wire_count};
 use crate::refusals::Refusal;
 
 // The wire is a node's that is not below k.
@@ -48,42 +49,27 @@ pub fn check_node(n: BoolNode, m: usize, i: usize) -> Result<(), Refusal>
 }
 
 // The nodes: both scans are left at the first fault.
-pub fn check_nodes(nodes: &[usize], count: usize) -> Result<(), Refusal>
-    requires { count * 9 ≤ length nodes.now }
-    ensures { result ≡ check_nodes count 0 (nodes_of nodes.now count) }
+pub fn check_nodes(nodes: Nodes) -> Result<(), Refusal>
+    ensures { result ≡ check_nodes nodes.entry.count 0 (nodes_of nodes.entry.words.now nodes.entry.count) }
 {
-    for i in 0..count {
-        check_node(node_at(nodes, i), count, i)?;
+    for i in 0..nodes.count {
+        check_node(nodes.at(i), nodes.count, i)?;
     }
     Ok(())
 }
 
 // Some output's wire is not below m.
-pub fn some_output_outside(outputs: &[usize], count: usize, m: usize) -> bool
-    requires { count * 5 ≤ length outputs.now }
-    ensures { result ≡ some_not_below m (output_wires outputs.now count) }
+pub fn output_outside(outputs: Outputs, m: usize) -> bool
+    ensures { result ≡ some_not_below m (output_wires outputs.entry.words.now outputs.entry.count) }
 {
-    for j in 0..count {
-        let w = BoolWire::from(outputs[j * 5 + 4]);
-        if not_below(w, m) {
-            return true;
-        }
-    }
-    false
+    (0..outputs.count).any(|j| not_below(outputs.wire(j), m))
 }
 
 // Some wire of the node is not below m.
 pub fn some_wire_outside(n: BoolNode, m: usize) -> bool
     ensures { result ≡ some_not_below m (wires_of n) }
 {
-    let wires = wire_count(n);
-    for k in 0..wires {
-        let w = wire_at(n, k);
-        if not_below(w, m) {
-            return true;
-        }
-    }
-    false
+    (0..wire_count(n)).any(|k| not_below(wire_at(n, k), m))
 }
 
 // The node breaks a rule in a circuit of m.
@@ -93,18 +79,11 @@ pub fn node_broken(n: BoolNode, m: usize) -> bool
     record_broken(n) || some_wire_outside(n, m)
 }
 
-// Some node of the area breaks a rule.
-pub fn some_broken(nodes: &[usize], count: usize) -> bool
-    requires { count * 9 ≤ length nodes.now }
-    ensures { result ≡ some_broken count (nodes_of nodes.now count) }
+// Some node breaks a rule.
+pub fn some_broken(nodes: Nodes) -> bool
+    ensures { result ≡ some_broken nodes.entry.count (nodes_of nodes.entry.words.now nodes.entry.count) }
 {
-    for i in 0..count {
-        let n = node_at(nodes, i);
-        if node_broken(n, count) {
-            return true;
-        }
-    }
-    false
+    (0..nodes.count).any(|i| node_broken(nodes.at(i), nodes.count))
 }
 
 // The areas hold whole records.
@@ -118,10 +97,10 @@ pub fn are_whole(nodes: &[usize], outputs: &[usize]) -> bool
 pub fn check_records(nodes: &[usize], outputs: &[usize]) -> Result<(), Refusal>
     ensures { result ≡ records_fault nodes.now outputs.now }
 {
-    let count = nodes.len() / 9;
+    let records = Nodes::of(nodes);
     if !are_whole(nodes, outputs)
-        || some_broken(nodes, count)
-        || some_output_outside(outputs, outputs.len() / 5, count)
+        || some_broken(records)
+        || output_outside(Outputs::of(outputs), records.count)
     {
         return Err(Refusal::Broken);
     }
@@ -135,9 +114,9 @@ pub fn validate_topological(nodes: &[usize], outputs: &[usize]) -> Result<(), Re
     if !are_whole(nodes, outputs) {
         return Err(Refusal::Broken);
     }
-    let count = nodes.len() / 9;
-    check_nodes(nodes, count)?;
-    if some_output_outside(outputs, outputs.len() / 5, count) {
+    let records = Nodes::of(nodes);
+    check_nodes(records)?;
+    if output_outside(Outputs::of(outputs), records.count) {
         return Err(Refusal::Broken);
     }
     Ok(())

@@ -4,5 +4,6 @@
 
 pub mod areas;
 pub mod check;
+pub mod nodes;
 pub mod records;
 pub mod refusals;

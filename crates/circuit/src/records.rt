@@ -1,6 +1,6 @@
 // Circuit records: values in code, words in the areas.
 ghost use Rattle.std.specs.Prelude.{◌≡◌, ◌+◌, ◌*◌, ◌^◌, ◌<◌, ◌≤◌, length, get_or};
-ghost use Rattle.circuit.specs.Records.{wire_word, wire_of, name_words, name_from, encode_node, NodeIs, encode_output, OutputIs, wires_of, no_wire};
+ghost use Rattle.circuit.specs.Records.{wire_word, wire_of, name_words, name_from, encode_node, input_node, encode_output, wires_of, no_wire};
 
 // A place in the circuit.
 #[derive(Clone, Copy)]
@@ -45,6 +45,22 @@ pub struct BoolNode {
 pub struct Output {
     pub name: Name,
     pub wire: BoolWire,
+}
+
+impl BoolNode {
+    // An input of that name.
+    pub fn input(name: Name) -> BoolNode
+        ensures { result ≡ input_node name }
+    {
+        BoolNode {
+            kind: 1,
+            count: 0,
+            table: 0,
+            name,
+            first: BoolWire::Const(false),
+            second: BoolWire::Const(false),
+        }
+    }
 }
 
 // How many nodes and outputs a circuit has.
@@ -128,22 +144,6 @@ pub fn node_words(n: BoolNode) -> [usize; 9]
     ]
 }
 
-// Node i of an area.
-pub fn node_at(nodes: &[usize], i: usize) -> BoolNode
-    requires { i * 9 + 9 ≤ length nodes.now }
-    ensures { NodeIs nodes.now (i * 9) result }
-{
-    let b = i * 9;
-    BoolNode {
-        kind: nodes[b],
-        count: nodes[b + 1],
-        table: nodes[b + 2],
-        name: Name::from([nodes[b + 3], nodes[b + 4], nodes[b + 5], nodes[b + 6]]),
-        first: BoolWire::from(nodes[b + 7]),
-        second: BoolWire::from(nodes[b + 8]),
-    }
-}
-
 // An output as five words.
 pub fn output_words(o: Output) -> [usize; 5]
     requires { wire_word o.wire < 2 ^ 64 }
@@ -151,18 +151,6 @@ pub fn output_words(o: Output) -> [usize; 5]
 {
     let [form, start, len, step] = <[usize; 4]>::from(o.name);
     [form, start, len, step, wire_word(o.wire)]
-}
-
-// Output j of an area.
-pub fn output_at(outputs: &[usize], j: usize) -> Output
-    requires { j * 5 + 5 ≤ length outputs.now }
-    ensures { OutputIs outputs.now (j * 5) result }
-{
-    let b = j * 5;
-    Output {
-        name: Name::from([outputs[b], outputs[b + 1], outputs[b + 2], outputs[b + 3]]),
-        wire: BoolWire::from(outputs[b + 4]),
-    }
 }
 
 // How many wires a node has.

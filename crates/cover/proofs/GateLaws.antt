@@ -1,25 +1,37 @@
--- Laws of the words of a line, as the code notes them.
+-- Laws of the words of a line as a gate: each ends where the line does, and the last of them is the output.
 -- Assumes nothing.
-use Prim.Native.Nat.{ℕ, zero, suc, ◌+◌, ◌≤◌}
-use mathlib.Core.Path.{◌≡◌, refl, sym, ap, ◌∙◌}
-use native.Mathlib.Numerals.{add-one}
+use Prim.Native.Nat.{ℕ, ◌+◌, ◌≤◌}
+use mathlib.Core.Path.{◌≡◌, refl, ap}
+use mathlib.Core.List.{List, [], ◌∷◌, ◌++◌}
+use Rattle.std.specs.Prelude.{Option, Some, None}
+use Rattle.std.specs.List.{fold}
+use Rattle.laws.specs.Stretches.{All}
+use Rattle.text.specs.Words.{IsWord}
 use Rattle.text.specs.declared.words.Word.{Word}
 use Rattle.cover.specs.declared.gates.Gate.{Gate}
-use Rattle.cover.specs.Gates.{note_at, note_word, GateFits}
+use Rattle.cover.specs.declared.gates.Inputs.{Inputs}
+use Rattle.cover.specs.declared.gates.Inputs.TheVariants.{Zero, One, Two}
+use Rattle.cover.specs.Gates.{with_word, with_input, InputsFit, GateFits, GateIs}
 
-module _ (g : Gate) (w : Word) where
-  count_at : (n : ℕ) → (note_at n g w).count ≡ n + 1
-  count_at zero = refl
-  count_at (suc zero) = refl
-  count_at (suc (suc n)) = sym (add-one (suc (suc n)))
+pub fold_snoc : (g : Gate) (ws : List Word) (w : Word) → fold with_word g (ws ++ w ∷ []) ≡ with_word (fold with_word g ws) w
+fold_snoc g [] w = refl
+fold_snoc g (x ∷ xs) w = fold_snoc (with_word g x) xs w
 
-  fits_at : (end n : ℕ) → GateFits end g → w.start + w.len ≤ end → GateFits end (note_at n g w)
-  fits_at end zero h k = record { first = k; second = h.second; last = k }
-  fits_at end (suc zero) h k = record { first = h.first; second = k; last = k }
-  fits_at end (suc (suc n)) h k = record { first = h.first; second = h.second; last = k }
+module _ (t : List ℕ) (from end : ℕ) where
+  input_fits : (i : Option (Inputs Word)) (w : Word) → InputsFit end i → w.start + w.len ≤ end → InputsFit end (with_input i w)
+  input_fits (Some Zero) w h k = k
+  input_fits (Some (One a)) w h k = (h, k)
+  input_fits (Some (Two a b)) w h k = tt
+  input_fits None w h k = tt
 
-pub note_count : (g : Gate) (w : Word) (r : Gate) → r ≡ note_word g w → r.count ≡ g.count + 1
-note_count g w r e = ap (λ (x : Gate). x.count) e ∙ count_at g w g.count
+  fold_fits : (g : Gate) (ws : List Word) → GateFits end g → All (IsWord t from end) ws → GateFits end (fold with_word g ws)
+  fold_fits g [] h k = h
+  fold_fits g (w ∷ ws) h k = fold_fits (with_word g w) ws (record { out = k.0.inside; inputs = input_fits g.inputs g.out h.inputs h.out }) k.1
 
-pub note_fits : (end : ℕ) (g : Gate) (w : Word) (r : Gate) → r ≡ note_word g w → GateFits end g → w.start + w.len ≤ end → GateFits end r
-note_fits end g w r e h k = rw e (fits_at g w end g.count h k)
+  pub gate_is : (ws : List Word) (w : Word) (rest : List Word) (g : Gate) → ws ≡ w ∷ rest → All (IsWord t from end) ws → g ≡ fold with_word (record { out = w; inputs = Some Zero }) rest → GateIs end (Some g) ws
+  gate_is ws w rest g e k q =
+      let all : All (IsWord t from end) (w ∷ rest) = rw e at k in
+      record {
+        is = rw e (ap (λ (x : Gate). Some x) q);
+        inside = rw q (fold_fits (record { out = w; inputs = Some Zero }) rest (record { out = all.0.inside; inputs = tt }) all.1);
+      }

@@ -1,4 +1,4 @@
 pub mod GateLaws
-pub mod DirectiveLaws
+pub mod LineLaws
 pub mod RowLaws
 pub mod TableLaws

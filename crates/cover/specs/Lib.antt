@@ -1,3 +1,4 @@
 pub mod Cover
 pub mod Directives
 pub mod Gates
+pub mod Rows

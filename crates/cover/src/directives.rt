@@ -1,10 +1,6 @@
 // The directive of a line.
-ghost use Rattle.std.specs.Prelude.{◌≡◌, ◌+◌, ◌≤◌, length};
-ghost use Rattle.laws.specs.Stretches.{stretch};
-ghost use Rattle.cover.specs.Directives.{directive};
-
-use text::bytes::is_word;
-use text::words::Word;
+ghost use Rattle.std.specs.Prelude.{◌≡◌};
+ghost use Rattle.cover.specs.Directives.{directive, rows_after};
 
 #[derive(Clone, Copy)]
 pub enum Directive {
@@ -15,19 +11,27 @@ pub enum Directive {
     Other,
 }
 
-// The directive of a word.
-#[tactic(auto, unfolding(crate::specs::Directives::directive))]
-pub fn directive_of(text: &[u8], word: Word) -> Directive
-    requires { word.start + word.len ≤ length text.now }
-    ensures { result ≡ directive (stretch text.now word.start word.len) }
+impl Directive {
+    // Whether rows may follow it.
+    pub fn takes_rows(self) -> bool
+        ensures { result ≡ rows_after self }
+    {
+        matches!(self, Directive::Names)
+    }
+}
+
+// The directive of a word. A `match` on it would leave a goal for each byte that may differ, 37 in all.
+#[tactic(auto, using(text::proofs::ByteLaws::same_pointwise), unfolding(crate::specs::Directives::directive))]
+pub fn directive_of(word: &[u8]) -> Directive
+    ensures { result ≡ directive word.now }
 {
-    if is_word(text, word, b".model") || is_word(text, word, b".end") {
+    if word == b".model".as_slice() || word == b".end".as_slice() {
         Directive::Ignored
-    } else if is_word(text, word, b".inputs") {
+    } else if word == b".inputs".as_slice() {
         Directive::Inputs
-    } else if is_word(text, word, b".outputs") {
+    } else if word == b".outputs".as_slice() {
         Directive::Outputs
-    } else if is_word(text, word, b".names") {
+    } else if word == b".names".as_slice() {
         Directive::Names
     } else {
         Directive::Other

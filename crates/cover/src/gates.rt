@@ -1,60 +1,59 @@
-// The words of a line, as they are noted.
-ghost use Rattle.std.specs.Prelude.{◌≡◌, ◌+◌, ◌-◌, ◌≤◌, ◌<◌, ◌^◌, length};
-ghost use Rattle.laws.specs.Stretches.{stretch};
-ghost use Rattle.text.specs.Words.{words};
-ghost use Rattle.cover.specs.Gates.{note_word, GateIs};
+// The words of a `.names` line.
+ghost use Rattle.std.specs.Prelude.{◌≡◌, ◌≤◌, length};
+ghost use Rattle.text.specs.Iterators.{words_left};
+ghost use Rattle.cover.specs.Gates.{listed, with_word, GateIs};
 
-use text::words::{Word, words_between};
+use text::words::{Word, Words};
 
-// How many words there are, the first two, and the last.
+// What at most two inputs have, as their words or their wires.
 #[derive(Clone, Copy)]
-pub struct Gate {
-    pub count: usize,
-    pub first: Word,
-    pub second: Word,
-    pub last: Word,
+pub enum Inputs<T> {
+    Zero,
+    One(T),
+    Two(T, T),
 }
 
-impl Gate {
-    // One word more.
-    pub fn with_word(self, word: Word) -> Gate
-        requires { self.count + 1 < 2 ^ 64 }
-        ensures { result ≡ note_word self word }
+impl<T> Inputs<T> {
+    // How many there are.
+    pub fn count(&self) -> usize
+        ensures { (result ≡ length (listed self.now)) × (result ≤ 2) }
     {
-        let more = Gate {
-            count: self.count + 1,
-            last: word,
-            ..self
-        };
-        match self.count {
-            0 => Gate {
-                first: word,
-                ..more
-            },
-            1 => Gate {
-                second: word,
-                ..more
-            },
-            _ => more,
+        match self {
+            Inputs::Zero => 0,
+            Inputs::One(_) => 1,
+            Inputs::Two(_, _) => 2,
         }
     }
 }
 
-// The words between two places.
-#[tactic(auto, using(text::proofs::WordLaws::each_word, text::proofs::WordLaws::count_between, crate::proofs::GateLaws::note_count, crate::proofs::GateLaws::note_fits), unfolding(crate::specs::Gates::noted))]
-pub fn gate_words(text: &[u8], from: usize, end: usize) -> Gate
-    requires { (from ≤ end) × (end ≤ length text.now) }
-    ensures { GateIs end result (words from (stretch text.now from (end - from))) }
-{
-    let none = Word { start: 0, len: 0 };
-    let mut gate = Gate {
-        count: 0,
-        first: none,
-        second: none,
-        last: none,
-    };
-    for word in words_between(text, from, end) {
-        gate = gate.with_word(word);
+// The output word, which is the last, and the words before it; `None` for more than two.
+#[derive(Clone, Copy)]
+pub struct Gate {
+    pub out: Word,
+    pub inputs: Option<Inputs<Word>>,
+}
+
+impl Gate {
+    // With one word more, which is the output from now on.
+    pub fn with_word(self, word: Word) -> Gate
+        ensures { result ≡ with_word self word }
+    {
+        let inputs = match self.inputs {
+            Some(Inputs::Zero) => Some(Inputs::One(self.out)),
+            Some(Inputs::One(first)) => Some(Inputs::Two(first, self.out)),
+            _ => None,
+        };
+        Gate { out: word, inputs }
     }
-    gate
+}
+
+// The words of a line as a gate; `None` if there is no word.
+pub fn gate_words(mut words: Words) -> Option<Gate>
+    ensures { GateIs words.entry.end result (words_left words.entry) }
+{
+    let first = Gate {
+        out: words.next()?,
+        inputs: Some(Inputs::Zero),
+    };
+    Some(words.fold(first, |gate, word| gate.with_word(word)))
 }

@@ -4,4 +4,5 @@
 
 pub mod directives;
 pub mod gates;
+pub mod lines;
 pub mod rows;

@@ -1,15 +1,13 @@
-// The rows of a `.names` line.
-ghost use Rattle.std.specs.Prelude.{◌≡◌, ◌+◌, ◌-◌, ◌≤◌, ◌<◌, length};
+// The rows of a `.names` line, and the table that they give.
+ghost use Rattle.std.specs.Prelude.{◌≡◌, ◌+◌, ◌≤◌, ◌<◌, length};
 ghost use Rattle.laws.specs.Stretches.{stretch};
-ghost use Rattle.text.specs.Words.{words};
-ghost use Rattle.text.specs.Lines.{lines};
+ghost use Rattle.text.specs.Iterators.{words_left};
 ghost use Rattle.cover.specs.Cover.{RowIs, BitIs, fits, matches, entry_count, set_row, start_table, set_rows, rows_table, constant, cover};
-ghost use Rattle.cover.specs.Directives.{rows_of};
+ghost use Rattle.cover.specs.Rows.{rows_left};
 
-use crate::gates::gate_words;
+use crate::lines::Rows;
 use cells::{set_table_entry, table_entry};
-use text::bytes::find_byte;
-use text::words::{Word, next_word};
+use text::words::Words;
 
 // Where a row's pattern starts, and its value, 0 or 1 as entries are.
 #[derive(Clone, Copy)]
@@ -18,40 +16,47 @@ pub struct Row {
     pub value: usize,
 }
 
-// A value, 0 or 1.
-pub fn parse_bit(text: &[u8], word: Word) -> Option<usize>
-    requires { word.start + word.len ≤ length text.now }
-    ensures { BitIs result (stretch text.now word.start word.len) }
-{
-    if word.len != 1 {
-        return None;
+impl Row {
+    // The bytes of its pattern, one for each input.
+    #[tactic(auto, unfolding(laws::specs::Stretches::stretch))]
+    pub fn pattern(self, text: &[u8], inputs: usize) -> &[u8]
+        requires { self.start + inputs ≤ length text.now }
+        ensures bytes { result.now ≡ stretch text.now self.start inputs }
+        ensures size { length result.now ≡ inputs }
+    {
+        &text[self.start..self.start + inputs]
     }
-    match text[word.start] {
-        b'0' => Some(0),
-        b'1' => Some(1),
+}
+
+// A value, 0 or 1.
+#[tactic(auto, unfolding(crate::specs::Cover::bit_of))]
+pub fn parse_bit(word: &[u8]) -> Option<usize>
+    ensures { BitIs result word.now }
+{
+    match word {
+        b"0" => Some(0),
+        b"1" => Some(1),
         _ => None,
     }
 }
 
-// A row between two places, unless it is bad.
-pub fn parse_row(text: &[u8], from: usize, end: usize, inputs: usize) -> Option<Row>
-    requires { (from ≤ end) × (end ≤ length text.now) × (0 < inputs) }
-    ensures { RowIs text.now inputs end result (words from (stretch text.now from (end - from))) }
+// A row from its words: a pattern and a value, which may be absent.
+#[tactic(auto, unfolding(crate::specs::Cover::row_of, crate::specs::Cover::row_with))]
+pub fn parse_row(mut words: Words, inputs: usize) -> Option<Row>
+    ensures { RowIs words.entry.text.now inputs words.entry.end result (words_left words.entry) }
 {
-    let pattern = next_word(text, from, end);
+    let pattern = words.next()?;
     if pattern.len != inputs {
         return None;
     }
     let start = pattern.start;
-    let bit = next_word(text, start + pattern.len, end);
-    if bit.len == 0 {
+    let Some(bit) = words.next() else {
         return Some(Row { start, value: 1 });
-    }
-    let more = next_word(text, bit.start + bit.len, end);
-    if more.len != 0 {
+    };
+    if words.next().is_some() {
         return None;
     }
-    let value = parse_bit(text, bit)?;
+    let value = parse_bit(bit.bytes(words.text))?;
     Some(Row { start, value })
 }
 
@@ -64,18 +69,16 @@ pub fn byte_fits(b: u8, bit: usize) -> bool
     b == b'-' || usize::from(b) == 48 + bit
 }
 
-// A pattern matches an index.
-pub fn pattern_matches(text: &[u8], start: usize, inputs: usize, j: usize) -> bool
-    requires { (start + inputs ≤ length text.now) × (inputs < 64) }
-    ensures { result ≡ matches (stretch text.now start inputs) j }
+// A pattern matches an index, whose bits stand for the inputs from the last on.
+pub fn pattern_matches(pattern: &[u8], j: usize) -> bool
+    requires { length pattern.now < 64 }
+    ensures { result ≡ matches pattern.now j }
 {
-    for i in 0..inputs {
-        let bit = table_entry(j, inputs - i - 1);
-        if !byte_fits(text[start + i], bit) {
-            return false;
-        }
-    }
-    true
+    pattern
+        .iter()
+        .rev()
+        .enumerate()
+        .all(|(i, &b)| byte_fits(b, table_entry(j, i)))
 }
 
 // How many entries a table has.
@@ -87,20 +90,22 @@ pub fn entry_count(inputs: usize) -> usize
 }
 
 // Every entry that the pattern matches is set.
-pub fn set_row(text: &[u8], row: Row, inputs: usize, table: usize) -> usize
-    requires { (row.start + inputs ≤ length text.now) × (inputs < 7) × (row.value < 2) }
-    ensures { result ≡ set_row inputs (stretch text.now row.start inputs) row.value table }
+#[tactic(auto, using(crate::proofs::RowLaws::set_start, crate::proofs::RowLaws::set_matched, crate::proofs::RowLaws::set_unmatched, crate::proofs::RowLaws::set_end))]
+pub fn set_row(pattern: &[u8], value: usize, table: usize) -> usize
+    requires { (length pattern.now < 7) × (value < 2) }
+    ensures { result ≡ set_row (length pattern.now) pattern.now value table }
 {
     let mut t = table;
-    for j in 0..entry_count(inputs) {
-        if pattern_matches(text, row.start, inputs, j) {
-            t = set_table_entry(t, j, row.value);
+    for j in 0..entry_count(pattern.len()) {
+        if pattern_matches(pattern, j) {
+            t = set_table_entry(t, j, value);
         }
     }
     t
 }
 
 // Every entry is one minus the first row's value.
+#[tactic(auto, unfolding(crate::specs::Cover::start_table))]
 pub fn start_table(inputs: usize, value: usize) -> usize
     requires { (inputs < 7) × (value < 2) }
     ensures { result ≡ start_table inputs value }
@@ -112,62 +117,57 @@ pub fn start_table(inputs: usize, value: usize) -> usize
     }
 }
 
-// The rows from a place on, over a table.
-pub fn set_rows(text: &[u8], from: usize, size: usize, inputs: usize, table: usize) -> Option<usize>
-    requires { (size ≤ length text.now) × (0 < inputs) × (inputs < 7) }
-    ensures { result ≡ set_rows text.now inputs (rows_of text.now (lines from (stretch text.now from (size - from)))) table }
+// The rows, over a table.
+#[tactic(auto, unfolding(crate::specs::Cover::set_rows, crate::specs::Cover::with_row))]
+pub fn set_rows(rows: Rows, inputs: usize, table: usize) -> Option<usize>
+    requires { inputs < 7 }
+    ensures { result ≡ set_rows rows.entry.lines.text.now inputs (rows_left rows.entry) table }
 {
-    let mut at = from;
+    let text = rows.lines.text;
     let mut t = table;
-    // No range: a row starts after the byte 10 that ends the one before.
-    while at < size && text[at] != b'.' {
-        let end = find_byte(text, b'\n', at, size);
-        let row = parse_row(text, at, end, inputs)?;
-        t = set_row(text, row, inputs, t);
-        at = end + 1;
+    for words in rows {
+        let row = parse_row(words, inputs)?;
+        t = set_row(row.pattern(text, inputs), row.value, t);
     }
     Some(t)
 }
 
 // The table of one input or more.
-pub fn rows_table(text: &[u8], from: usize, size: usize, inputs: usize) -> Option<usize>
-    requires { (size ≤ length text.now) × (0 < inputs) × (inputs < 7) }
-    ensures { result ≡ rows_table text.now inputs (rows_of text.now (lines from (stretch text.now from (size - from)))) }
+#[tactic(auto, unfolding(crate::specs::Cover::rows_table, crate::specs::Cover::set_rows, crate::specs::Cover::with_row))]
+pub fn rows_table(mut rows: Rows, inputs: usize) -> Option<usize>
+    requires { inputs < 7 }
+    ensures { result ≡ rows_table rows.entry.lines.text.now inputs (rows_left rows.entry) }
 {
-    if size <= from || text[from] == b'.' {
+    let text = rows.lines.text;
+    let Some(words) = rows.next() else {
         return Some(0);
-    }
-    let end = find_byte(text, b'\n', from, size);
-    let row = parse_row(text, from, end, inputs)?;
+    };
+    let row = parse_row(words, inputs)?;
     let none = start_table(inputs, row.value);
-    let table = set_row(text, row, inputs, none);
-    set_rows(text, end + 1, size, inputs, table)
+    let table = set_row(row.pattern(text, inputs), row.value, none);
+    set_rows(rows, inputs, table)
 }
 
 // The constant of no inputs.
-pub fn constant_cover(text: &[u8], from: usize, size: usize) -> Option<usize>
-    requires { size ≤ length text.now }
-    ensures { result ≡ constant text.now (rows_of text.now (lines from (stretch text.now from (size - from)))) }
+#[tactic(auto, unfolding(crate::specs::Cover::constant))]
+pub fn constant_cover(mut rows: Rows) -> Option<usize>
+    ensures { result ≡ constant rows.entry.lines.text.now (rows_left rows.entry) }
 {
-    if size <= from || text[from] == b'.' {
-        return Some(0);
-    }
-    let gate = gate_words(text, from, find_byte(text, b'\n', from, size));
-    if gate.count == 0 {
-        None
-    } else {
-        parse_bit(text, gate.last)
+    match rows.next() {
+        Some(words) => parse_bit(words.last()?.bytes(words.text)),
+        None => Some(0),
     }
 }
 
-// The table that the rows from a place on give.
-pub fn parse_cover(text: &[u8], from: usize, size: usize, inputs: usize) -> Option<usize>
-    requires { (size ≤ length text.now) × (inputs < 7) }
-    ensures { result ≡ cover text.now inputs (rows_of text.now (lines from (stretch text.now from (size - from)))) }
+// The table that the rows give.
+#[tactic(auto, unfolding(crate::specs::Cover::cover))]
+pub fn parse_cover(rows: Rows, inputs: usize) -> Option<usize>
+    requires { inputs < 7 }
+    ensures { result ≡ cover rows.entry.lines.text.now inputs (rows_left rows.entry) }
 {
     if inputs == 0 {
-        constant_cover(text, from, size)
+        constant_cover(rows)
     } else {
-        rows_table(text, from, size, inputs)
+        rows_table(rows, inputs)
     }
 }

@@ -18,7 +18,7 @@ use Rattle.laws.specs.Bits.{set_bit}
 use Rattle.laws.specs.Lists.{some}
 use Rattle.laws.specs.Stretches.{stretch, All}
 use Rattle.laws.proofs.Bits.{bit-set_same, bit-set_other}
-use Rattle.laws.proofs.Rows.{or_cases, bit_cases, zero_bit, ones_bit}
+use Rattle.laws.proofs.Rows.{or_cases, one_bit, zero_bit, ones_bit}
 use Rattle.laws.proofs.Stretches.{length-stretch}
 use Rattle.cells.specs.Cells.{entry, index_from}
 use Rattle.text.specs.Words.{bytes_of}
@@ -62,10 +62,10 @@ literal-fits b v p h =
     at c e q = rw e q
 
     zeros : fits 48 v ≡ literal 48 v
-    zeros = unfold fits in ⊎_elim (λ e. rw e) (λ e. rw e) (bit_cases v h)
+    zeros = unfold fits in one_bit (λ (x : ℕ). fits 48 x ≡ literal 48 x) refl refl v h
 
     ones : fits 49 v ≡ literal 49 v
-    ones = unfold fits in ⊎_elim (λ e. rw e) (λ e. rw e) (bit_cases v h)
+    ones = unfold fits in one_bit (λ (x : ℕ). fits 49 x ≡ literal 49 x) refl refl v h
 
     both : fits 45 v ≡ literal 45 v
     both = unfold fits in refl
@@ -120,7 +120,7 @@ row-entry n p v table k hv h = set_among p v hv (2 ^ n) 0 table k (omega arith) 
 
 start-entry : (n v k : ℕ) → v < 2 → k < 2 ^ n → entry (start_table n v) k ≡ 1 - v
 unfolding start_table
-start-entry n v k hv h = ⊎_elim (λ e. rw e (zeros)) (λ e. rw e ones) (bit_cases v hv)
+start-entry n v k hv h = one_bit (λ (x : ℕ). entry ((1 - x) * (2 ^ 2 ^ n - 1)) k ≡ 1 - x) zeros ones v hv
   where
     zeros : entry ((1 - 0) * (2 ^ 2 ^ n - 1)) k ≡ 1 - 0
     zeros = ap (λ (x : ℕ). entry x k) (omega arith) ∙ ones_bit (2 ^ n) k h
@@ -138,7 +138,7 @@ row_bytes t rows = map (map (bytes_of t)) rows
 
 value_bit : (v : ℕ) → v < 2 → bit_of ((48 + v) ∷ []) ≡ Some v
 unfolding bit_of
-value_bit v h = ⊎_elim (λ e. rw e) (λ e. rw e) (bit_cases v h)
+value_bit = one_bit (λ (v : ℕ). bit_of ((48 + v) ∷ []) ≡ Some v) refl refl
 
 row_read : (t : List ℕ) (n v : ℕ) (r : List Word) (p : List ℕ) → v < 2 → All (λ (w : Word). w.start + w.len ≤ length t) r → IsRow (suc n) v (map (bytes_of t) r) p
     → (s : ℕ) × (row_of t (suc n) r ≡ sets s v) × (stretch t s (suc n) ≡ p)
@@ -219,7 +219,7 @@ constant_read t v (w ∷ []) rs p ps hv is = record {
     word = let q = is.0 in cc
 
     at : (vs : List ℕ) → length vs ≡ 0 → entry v (index_from 0 vs) ≡ cover_value v (p ∷ ps) vs
-    at [] l = unfold index_from cover_value cube in rw is.1 (⊎_elim (λ e. rw e) (λ e. rw e) (bit_cases v hv))
+    at [] l = unfold index_from cover_value cube in rw is.1 (one_bit (λ (x : ℕ). entry x 0 ≡ cond true x (1 - x)) refl refl v hv)
     at (y ∷ ys) l = absurd (omega arith)
 
 pub cover_means : (t : List ℕ) (n v : ℕ) (rows : List (List Word)) (ps : List (List ℕ)) → v < 2 → Inside t rows → IsCover n v (row_bytes t rows) ps → Covers t n v rows ps

@@ -1,86 +1,50 @@
 -- What a line of inputs and a gate leave: every name keeps its value, the inputs have the assignment's, and the gate's equation holds.
 -- Assumes nothing.
 use Rattle.std.specs.Prelude.{None, Ok, Option, Some}
-use Prim.Native.Nat.{ℕ, zero, suc, ◌+◌, ◌^◌, ◌≤◌, ◌<◌}
+use Prim.Native.Nat.{ℕ, suc, ◌+◌, ◌^◌, ◌≤◌, ◌<◌}
 use mathlib.Core.Path.{◌≡◌, refl, sym, ap, ap₂, ◌∙◌, subst}
 use mathlib.Core.Bool.{Bool, true, false, cond}
 use mathlib.Core.List.{List, [], ◌∷◌, ◌++◌, map}
 use native.Mathlib.Nat.{add-zero}
 use native.Mathlib.Omega.{arith}
 use lib.ListN.{length, get_or, length-append}
-use lib.Dec.{eqb, ltb}
+use lib.Dec.{eqb}
 use borrow.Author.Tests.{eqb-true}
 use Rattle.laws.specs.Stretches.{All}
-use Rattle.laws.proofs.Rows.{length-map}
-use Rattle.circuit.specs.declared.refusals.Refusal.TheVariants.{NoRoom}
+use Rattle.laws.proofs.Rows.{one_bit}
+use Rattle.std.proofs.lemmas.List.{length-map}
 use Rattle.circuit.specs.declared.records.BoolNode.{BoolNode}
-use Rattle.circuit.specs.Refusals.{and_then, need}
 use Rattle.circuit.specs.Records.{is_cell_node, wires_of}
-use Rattle.circuit.proofs.Tries.{no_yes, yes_same, then_yes}
+use Rattle.circuit.proofs.Tries.{yes_same, then_yes}
 use Rattle.cells.specs.Cells.{entry, index_from}
 use Rattle.text.specs.Words.{bytes_of}
 use Rattle.text.specs.declared.words.Word.{Word}
 use Rattle.names.specs.Names.{Entry, lookup}
-use Rattle.reading.specs.Reading.{Places, Held, find, driver, add_name, with_names, add_node, add_alias, add_named, input_node, add_input, each}
-use Rattle.reading.proofs.Sound.{Wired, wired_more}
+use Rattle.reading.specs.Reading.{Places, Held, find, driver, add_alias, add_named, input_node, add_input, each}
+use Rattle.reading.proofs.States.{undefined_yes}
+use Rattle.names.proofs.Lookups.{lookup_new, lookup-kept}
+use Rattle.reading.proofs.Ended.{wire_at}
+use Rattle.reading.proofs.Made.{entry as entry_for, alias_made, named_made, driver_found}
+use Rattle.reading.proofs.Sound.{Wired, wired_more, lookup_below}
+use Rattle.runs.proofs.NodeValues.{count_append}
 use Rattle.runs.specs.Values.{signal_value, entry_of}
 use Rattle.runs.specs.Runs.{input_count}
 use Rattle.cover.specs.Cover.{last_of, cover}
 use Rattle.cover.proofs.TableLaws.{cover-fits}
 use Rattle.blif.specs.Blif.{drivers, input_names, cell_node, gate, names_line}
-use Rattle.blif.proofs.Accepted.{undefined_yes, names-none, names-yes}
+use Rattle.blif.proofs.Accepted.{names-none, names-yes}
 use Rattle.documents.specs.BlifDocument.{gate_inputs, gate_output, IsCover, cover_value, Equation, Assigned}
 use Rattle.documents.proofs.BlifCover.{Bits, Inside, row_bytes, Covers, cover_means}
-use Rattle.documents.proofs.BlifValues.{values, wire_value, wire_bit, wire_kept, wire_new, wire_at, lookup_below, lookup_new, lookup-kept, value, Known, Grows, grows_none, grows_on, known_on, value_at, value_kept, values-kept}
+use Rattle.documents.proofs.BlifValues.{values, wire_value, wire_bit, wire_kept, wire_new, value, Known, Grows, grows_none, grows_on, known_on, value_at, value_kept, values-kept}
 
 -- ---- what a record more leaves
-
-abbrev named : Word → ℕ → Entry
-named w wire = record { start = w.start; len = w.len; wire = wire }
-
-alias_inv : (p : Places) (w : Word) (wire : ℕ) (h h' : Held) → add_alias p w wire h ≡ Ok h' → h' ≡ record { nodes = h.nodes; names = named w wire ∷ h.names }
-unfolding add_alias add_name
-alias_inv p w wire h h' q = go (ltb (length h.names) p.names) q
-  where
-    go : (b : Bool) → with_names h.nodes (need b NoRoom (Ok (named w wire ∷ h.names))) ≡ Ok h' → h' ≡ record { nodes = h.nodes; names = named w wire ∷ h.names }
-    go true r = sym (yes_same r)
-    go false r = absurd (no_yes r)
-
-named_inv : (p : Places) (w : Word) (n : BoolNode) (h h' : Held) → add_named p w n h ≡ Ok h' → h' ≡ record { nodes = h.nodes ++ (n ∷ []); names = named w (length h.nodes + 2) ∷ h.names }
-unfolding add_named add_node add_name
-named_inv p w n h h' q = go (ltb (length h.nodes) p.nodes) (ltb (length h.names) p.names) q
-  where
-    go : (a b : Bool)
-        → and_then (need a NoRoom (Ok (h.nodes ++ (n ∷ [])))) (λ ns. with_names ns (need b NoRoom (Ok (named w (length h.nodes + 2) ∷ h.names)))) ≡ Ok h'
-        → h' ≡ record { nodes = h.nodes ++ (n ∷ []); names = named w (length h.nodes + 2) ∷ h.names }
-    go true true r = sym (yes_same r)
-    go true false r = absurd (no_yes r)
-    go false b r = absurd (no_yes r)
 
 pub find-lookup : (t : List ℕ) (w : Word) (es : List Entry) → find false t w es ≡ lookup t (bytes_of t w) es
 unfolding find
 find-lookup t w es = refl
 
 pub driver_at : (t : List ℕ) (w : Word) (es : List Entry) (x : ℕ) → driver (find false t w es) ≡ Ok x → lookup t (bytes_of t w) es ≡ Some x
-driver_at t w es x q = sym (find-lookup t w es) ∙ go (find false t w es) q
-  where
-    go : (f : Option ℕ) → driver f ≡ Ok x → f ≡ Some x
-    go (Some y) r = ap Some (yes_same r)
-    go None r = absurd (no_yes r)
-
-count_more : (ns : List BoolNode) (n : BoolNode) → input_count (ns ++ (n ∷ [])) ≡ input_count ns + cond (is_cell_node n) 0 1
-unfolding input_count
-count_more [] n = go (is_cell_node n)
-  where
-    go : (b : Bool) → cond b 0 1 ≡ 0 + cond b 0 1
-    go true = refl
-    go false = refl
-count_more (x ∷ ns) n = go (is_cell_node x) (count_more ns n)
-  where
-    go : (b : Bool) → input_count (ns ++ (n ∷ [])) ≡ input_count ns + cond (is_cell_node n) 0 1
-        → cond b (input_count (ns ++ (n ∷ []))) (suc (input_count (ns ++ (n ∷ [])))) ≡ cond b (input_count ns) (suc (input_count ns)) + cond (is_cell_node n) 0 1
-    go true h = h
-    go false h = ap suc h ∙ omega arith
+driver_at t w es x q = sym (find-lookup t w es) ∙ driver_found (find false t w es) x q
 
 module _ (t a : List ℕ) where
   -- a name more, with its value
@@ -93,12 +57,12 @@ module _ (t a : List ℕ) where
   added_alias : (p : Places) (w : Word) (wire : ℕ) (h h' : Held) → Wired (length h.nodes) h.names → lookup t (bytes_of t w) h.names ≡ None → wire < length h.nodes + 2
       → add_alias p w wire h ≡ Ok h' → Added h h' (bytes_of t w) (wire_value a h.nodes wire) × (h'.nodes ≡ h.nodes)
   added_alias p w wire h h' wd new below q =
-      subst (λ (x : Held). Added h x (bytes_of t w) (wire_value a h.nodes wire) × (x.nodes ≡ h.nodes)) (sym (alias_inv p w wire h h' q)) (
+      subst (λ (x : Held). Added h x (bytes_of t w) (wire_value a h.nodes wire) × (x.nodes ≡ h.nodes)) (alias_made p w wire h h' q) (
         record {
-          grows = record { names = λ name x r. lookup-kept t (named w wire) h.names name x new r; wires = λ x k. refl; more = omega arith };
+          grows = record { names = λ name x r. lookup-kept t (entry_for w wire) h.names name x new r; wires = λ x k. refl; more = omega arith };
           wired = (below, wd);
-          known = (wire, lookup_new t (named w wire) h.names);
-          is = value_at t a (record { nodes = h.nodes; names = named w wire ∷ h.names }) (bytes_of t w) wire (lookup_new t (named w wire) h.names);
+          known = (wire, lookup_new t (entry_for w wire) h.names);
+          is = value_at t a (record { nodes = h.nodes; names = entry_for w wire ∷ h.names }) (bytes_of t w) wire (lookup_new t (entry_for w wire) h.names);
         },
         refl,
       )
@@ -111,14 +75,14 @@ module _ (t a : List ℕ) where
       → add_named p w n h ≡ Ok h' → Added h h' (bytes_of t w) (at_end h n) × (h'.nodes ≡ h.nodes ++ (n ∷ []))
   added_node p w n h h' wd new q =
       let x : ℕ = length h.nodes + 2 in
-      let r : Held = record { nodes = h.nodes ++ (n ∷ []); names = named w x ∷ h.names } in
+      let r : Held = record { nodes = h.nodes ++ (n ∷ []); names = entry_for w x ∷ h.names } in
       let l : length (h.nodes ++ (n ∷ [])) ≡ length h.nodes + 1 = length-append h.nodes (n ∷ []) in
-      subst (λ (y : Held). Added h y (bytes_of t w) (at_end h n) × (y.nodes ≡ h.nodes ++ (n ∷ []))) (sym (named_inv p w n h h' q)) (
+      subst (λ (y : Held). Added h y (bytes_of t w) (at_end h n) × (y.nodes ≡ h.nodes ++ (n ∷ []))) (named_made p w n h h' q) (
         record {
-          grows = record { names = λ name y s. lookup-kept t (named w x) h.names name y new s; wires = λ y k. wire_kept a h.nodes n y k; more = omega (arith, l) };
+          grows = record { names = λ name y s. lookup-kept t (entry_for w x) h.names name y new s; wires = λ y k. wire_kept a h.nodes n y k; more = omega (arith, l) };
           wired = (omega (arith, l), wired_more (length h.nodes) (length (h.nodes ++ (n ∷ []))) (omega (arith, l)) h.names wd);
-          known = (x, lookup_new t (named w x) h.names);
-          is = value_at t a r (bytes_of t w) x (lookup_new t (named w x) h.names) ∙ wire_new a h.nodes n;
+          known = (x, lookup_new t (entry_for w x) h.names);
+          is = value_at t a r (bytes_of t w) x (lookup_new t (entry_for w x) h.names) ∙ wire_new a h.nodes n;
         },
         refl,
       )
@@ -145,7 +109,7 @@ module _ (t a : List ℕ) where
     where
       joined : (mid : Held) → Added h mid (bytes_of t w) (at_end h (input_node w)) → mid.nodes ≡ h.nodes ++ (input_node w ∷ []) → InputsRead mid h' (map (bytes_of t) ws) → InputsRead h h' (map (bytes_of t) (w ∷ ws))
       joined mid d e r =
-          let c : input_count mid.nodes ≡ input_count h.nodes + 1 = ap input_count e ∙ count_more h.nodes (input_node w) ∙ unfold is_cell_node in refl in
+          let c : input_count mid.nodes ≡ input_count h.nodes + 1 = ap input_count e ∙ count_append h.nodes (input_node w ∷ []) ∙ unfold input_count is_cell_node in refl in
           let f : input_count mid.nodes ≡ suc (input_count h.nodes) = omega (arith, c) in
           record {
             grows = grows_on t a h mid h' d.grows r.grows;
@@ -180,7 +144,7 @@ module _ (t a : List ℕ) where
           (record {
             count = ap suc d.count;
             known = ((x, f), d.known);
-            below = (lookup_below t (length h.nodes) (bytes_of t w) h.names x wd f, d.below);
+            below = (lookup_below (length h.nodes) t (bytes_of t w) h.names x wd f, d.below);
             are = ap₂ (λ (v : ℕ) (vs : List ℕ). v ∷ vs) (sym (value_at t a h (bytes_of t w) x f)) d.are;
           })
 
@@ -196,15 +160,11 @@ module _ (t a : List ℕ) where
 
   alias_entry : (v : ℕ) → v < 2 → v ≡ entry 2 (index_from 0 (v ∷ []))
   unfolding index_from
-  alias_entry zero k = refl
-  alias_entry (suc zero) k = refl
-  alias_entry (suc (suc v)) k = absurd (omega arith)
+  alias_entry = one_bit (λ (v : ℕ). v ≡ entry 2 (index_from 0 (v ∷ []))) refl refl
 
   constant-entry : (h : Held) (table : ℕ) → table < 2 → wire_value a h.nodes table ≡ entry table (index_from 0 [])
   unfolding index_from
-  constant-entry h zero k = refl
-  constant-entry h (suc zero) k = refl
-  constant-entry h (suc (suc v)) k = absurd (omega arith)
+  constant-entry h = one_bit (λ (table : ℕ). wire_value a h.nodes table ≡ entry table (index_from 0 [])) refl refl
 
   record Gated (h h' : Held) (out : Word) (v : ℕ) : Type 0 where
     added : Added h h' (bytes_of t out) v
@@ -213,7 +173,7 @@ module _ (t a : List ℕ) where
   gated : (h h' : Held) (out : Word) (v u : ℕ) (n : BoolNode) → is_cell_node n ≡ true → v ≡ u → Added h h' (bytes_of t out) v × (h'.nodes ≡ h.nodes ++ (n ∷ [])) → Gated h h' out u
   gated h h' out v u n c e d = record {
     added = subst (λ (x : ℕ). Added h h' (bytes_of t out) x) e d.0;
-    counted = ap input_count d.1 ∙ count_more h.nodes n ∙ rw c (add-zero (input_count h.nodes));
+    counted = ap input_count d.1 ∙ count_append h.nodes (n ∷ []) ∙ unfold input_count in rw c (add-zero (input_count h.nodes));
   }
 
   aliased : (h h' : Held) (out : Word) (v u : ℕ) → v ≡ u → Added h h' (bytes_of t out) v × (h'.nodes ≡ h.nodes) → Gated h h' out u
@@ -301,7 +261,7 @@ module _ (t a : List ℕ) where
           let c : Covers t (length (input_names w ws)) v rows ps = cover_means t (length (input_names w ws)) v rows ps hv ins is in
           let e : c.table ≡ table = same c.table (sym c.is ∙ cv) in
           let vs : List ℕ = map (value t a h) names in
-          let l : length vs ≡ length (input_names w ws) = length-map (value t a h) names ∙ length-map (bytes_of t) (input_names w ws) in
+          let l : length vs ≡ length (input_names w ws) = length-map names (value t a h) ∙ length-map (input_names w ws) (bytes_of t) in
           g.added.is
           ∙ ap₂ (λ (k : ℕ) (us : List ℕ). entry k (index_from 0 us)) (sym e) dr.are
           ∙ c.means vs l (value_bits ha h names)
@@ -319,7 +279,7 @@ module _ (t a : List ℕ) where
         grows = g.added.grows;
         wired = g.added.wired;
         known = rw (inputs_are w ws, output_is w ws) (g.added.known, known_all names dr.known);
-        equation = rw (inputs_are w ws, output_is w ws, length-map (bytes_of t) (input_names w ws)) holds;
+        equation = rw (inputs_are w ws, output_is w ws, length-map (input_names w ws) (bytes_of t)) holds;
         counted = g.counted;
       }
 

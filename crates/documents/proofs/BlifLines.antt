@@ -153,46 +153,29 @@ is_names Outputs = false
 is_names Names = true
 is_names Other = false
 
+-- the document's tests of a line's first word agree with its directive
 record Kinds (w : List ℕ) (d : Directive) : Type 0 where
   of_inputs : same_bytes w inputs ≡ is_inputs d
   of_outputs : same_bytes w outputs ≡ is_outputs d
   of_names : same_bytes w names ≡ is_names d
 
-kinds_model : Kinds model (directive model)
-unfolding directive same_bytes
-kinds_model = record { of_inputs = refl; of_outputs = refl; of_names = refl }
-
-kinds_end : Kinds the_end (directive the_end)
-unfolding directive same_bytes
-kinds_end = record { of_inputs = refl; of_outputs = refl; of_names = refl }
-
-kinds_inputs : Kinds inputs (directive inputs)
-unfolding directive same_bytes
-kinds_inputs = record { of_inputs = refl; of_outputs = refl; of_names = refl }
-
-kinds_outputs : Kinds outputs (directive outputs)
-unfolding directive same_bytes
-kinds_outputs = record { of_inputs = refl; of_outputs = refl; of_names = refl }
-
-kinds_names : Kinds names (directive names)
-unfolding directive same_bytes
-kinds_names = record { of_inputs = refl; of_outputs = refl; of_names = refl }
-
 kinds : (w : List ℕ) → Kinds w (directive w)
+unfolding directive same_bytes
 kinds w = go (same_bytes w model) refl (same_bytes w the_end) refl (same_bytes w inputs) refl (same_bytes w outputs) refl (same_bytes w names) refl
   where
-    at : (d : List ℕ) → same_bytes w d ≡ true → Kinds d (directive d) → Kinds w (directive w)
-    at d e k = subst (λ (x : List ℕ). Kinds x (directive x)) (sym (same_eq w d e)) k
+    at : (d : List ℕ) → same_bytes w d ≡ true → same_bytes d inputs ≡ is_inputs (directive d) → same_bytes d outputs ≡ is_outputs (directive d) → same_bytes d names ≡ is_names (directive d)
+        → Kinds w (directive w)
+    at d e i o n = rw (same_eq w d e) (record { of_inputs = i; of_outputs = o; of_names = n })
 
     go : (a : Bool) → same_bytes w model ≡ a → (b : Bool) → same_bytes w the_end ≡ b → (c : Bool) → same_bytes w inputs ≡ c → (d : Bool) → same_bytes w outputs ≡ d → (e : Bool) → same_bytes w names ≡ e
         → Kinds w (directive w)
-    go true p b q c r d s e u = at model p kinds_model
-    go false p true q c r d s e u = at the_end q kinds_end
-    go false p false q true r d s e u = at inputs r kinds_inputs
-    go false p false q false r true s e u = at outputs s kinds_outputs
-    go false p false q false r false s true u = at names u kinds_names
+    go true p b q c r d s e u = at model p refl refl refl
+    go false p true q c r d s e u = at the_end q refl refl refl
+    go false p false q true r d s e u = at inputs r refl refl refl
+    go false p false q false r true s e u = at outputs s refl refl refl
+    go false p false q false r false s true u = at names u refl refl refl
     go false p false q false r false s false u =
-        let z : directive w ≡ Other = unfold directive in rw (p, q, r, s, u) in
+        let z : directive w ≡ Other = rw (p, q, r, s, u) in
         record { of_inputs = rw z r; of_outputs = rw z s; of_names = rw z u }
 
 module _ (t : List ℕ) (l : Word) (ok : LineOk t l) where

@@ -2,7 +2,7 @@
 -- Assumes nothing.
 use Rattle.std.specs.Prelude.{Err, Ok}
 use Prim.Native.Nat.{ℕ, suc, ◌+◌}
-use mathlib.Core.Path.{◌≡◌, refl, sym, ap, ap₂, ◌∙◌, subst}
+use mathlib.Core.Path.{◌≡◌, refl, sym, ap, ◌∙◌, subst}
 use mathlib.Core.Bool.{Bool, true, false}
 use mathlib.Core.List.{List, [], ◌∷◌, ◌++◌, map, append_assoc, append-nil}
 use native.Mathlib.Nat.{add-zero}
@@ -10,12 +10,13 @@ use native.Mathlib.Omega.{arith}
 use lib.ListN.{length}
 use lib.Dec.{ltb}
 use Rattle.laws.specs.Stretches.{All}
-use Rattle.laws.proofs.Rows.{map-append}
+use Rattle.std.proofs.lemmas.List.{map-append}
+use Rattle.std.proofs.lemmas.Simd.{map-map}
 use Rattle.circuit.specs.declared.refusals.Refusal.TheVariants.{NoRoom, Unknown}
 use Rattle.circuit.specs.declared.records.BoolWire.{BoolWire}
 use Rattle.circuit.specs.declared.records.BoolNode.{BoolNode}
 use Rattle.circuit.specs.declared.records.Output.{Output}
-use Rattle.circuit.specs.Refusals.{Try, and_then, need}
+use Rattle.circuit.specs.Refusals.{Try, need}
 use Rattle.circuit.specs.Circuits.{Circuit}
 use Rattle.circuit.proofs.Tries.{no_yes, yes_same, then_yes, need-yes}
 use Rattle.text.specs.Words.{bytes_of, split_whitespace}
@@ -23,7 +24,9 @@ use Rattle.text.specs.Lines.{lines, line_words}
 use Rattle.text.specs.Joining.{joined_text, logical_lines}
 use Rattle.text.specs.declared.words.Word.{Word}
 use Rattle.names.specs.Names.{lookup}
-use Rattle.reading.specs.Reading.{Places, places_in, Held, State, start, find, driver, add_input, add_output, each, Out, output_of, resolve, closed, finish}
+use Rattle.reading.specs.Reading.{Places, places_in, Held, State, start, find, add_input, add_output, each, Out, output_of, resolve}
+use Rattle.reading.proofs.Ended.{wire_at, resolved_wires, finish_yes}
+use Rattle.reading.proofs.States.{held_yes, outputs-yes}
 use Rattle.reading.proofs.Sound.{Wired, wires_out}
 use Rattle.runs.specs.Values.{signal_value, outputs_from, evaluated}
 use Rattle.runs.specs.Runs.{input_count}
@@ -31,12 +34,12 @@ use Rattle.cover.specs.declared.directives.Directive.{Directive}
 use Rattle.cover.specs.declared.directives.Directive.TheVariants.{Ignored, Inputs, Outputs, Names, Other}
 use Rattle.cover.specs.Directives.{inputs, outputs, names, dotted, directive_of, rest_of, rows_of}
 use Rattle.blif.specs.Blif.{names_line, directive_step, line_step, row_next, read_lines, blif}
-use Rattle.blif.proofs.Accepted.{held_yes, outputs-yes, line_yes, text_yes}
+use Rattle.blif.proofs.Accepted.{line_yes, text_yes}
 use Rattle.documents.specs.BlifDocument.{words_after, is_line_of, declared, starts_with_dot, cover_after, LogicGate, gates, Equation, Assigned, Means}
 use Rattle.documents.proofs.BlifCover.{Bits, row_bytes}
 use Rattle.documents.proofs.BlifLines.{LineOk, joined_bytes, joined_ok, no_directive, dot_is, words_are, is_inputs, is_outputs, is_names, inputs_line, outputs_line, names-line, rows_are, rows_inside}
-use Rattle.documents.proofs.BlifValues.{values, wire_at, value, Known, Grows, grows_none, grows_on, value_at, value_kept}
-use Rattle.documents.proofs.BlifGates.{driver_at, InputsRead, inputs_read, GateRead, equation_on, names_read}
+use Rattle.documents.proofs.BlifValues.{values, value, Known, Grows, grows_none, grows_on, value_kept}
+use Rattle.documents.proofs.BlifGates.{InputsRead, inputs_read, GateRead, equation_on, names_read}
 
 -- every word of `.outputs` is collected
 collected : (room : ℕ) (ws os os' : List Word) → each (add_output room) ws os ≡ Ok os' → os' ≡ os ++ ws
@@ -174,25 +177,10 @@ module _ (t a : List ℕ) (ha : Bits a) where
   -- the outputs at the end
   resolved : (h : Held) (ws : List Word) (os : List Out) → resolve false t h.names ws ≡ Ok os
       → map (signal_value (values a h.nodes)) (map (λ (o : Output). o.wire) (map output_of os)) ≡ map (value t a h) (map (bytes_of t) ws)
-  unfolding resolve
-  resolved h [] os q = subst (λ (l : List Out). map (signal_value (values a h.nodes)) (map (λ (o : Output). o.wire) (map output_of l)) ≡ []) (yes_same q) refl
-  resolved h (w ∷ ws) os q =
-      let x = then_yes (driver (find false t w h.names)) _ os q in
-      let r = then_yes (resolve false t h.names ws) _ os x.2 in
-      subst (λ (l : List Out). map (signal_value (values a h.nodes)) (map (λ (o : Output). o.wire) (map output_of l)) ≡ map (value t a h) (map (bytes_of t) (w ∷ ws))) (yes_same r.2)
-      (ap₂ (λ (v : ℕ) (vs : List ℕ). v ∷ vs) (sym (value_at t a h (bytes_of t w) x.0 (driver_at t w h.names x.0 x.1))) (resolved h ws r.0 r.1))
+  unfolding find
+  resolved h ws os q = resolved_wires false t (signal_value (values a h.nodes)) h.names ws os q ∙ sym (map-map (value t a h) (bytes_of t) ws)
 
 -- ---- the theorem
-
-closed_inv : (t : List ℕ) (s : State) (c : Circuit) → finish false t s ≡ Ok c → (os : List Out) × (resolve false t s.held.names s.outputs ≡ Ok os) × (c ≡ record { nodes = s.held.nodes; outputs = map output_of os })
-unfolding finish closed
-closed_inv t s c q = go (resolve false t s.held.names s.outputs) refl q
-  where
-    go : (r : Try (List Out)) → resolve false t s.held.names s.outputs ≡ r → and_then r (closed s.held.nodes) ≡ Ok c
-        → (os : List Out) × (resolve false t s.held.names s.outputs ≡ Ok os) × (c ≡ record { nodes = s.held.nodes; outputs = map output_of os })
-    go (Err e) p z = absurd (no_yes z)
-    go (Ok []) p z = absurd (no_yes z)
-    go (Ok (o ∷ os)) p z = (o ∷ os, p, sym (yes_same z))
 
 no_inputs : input_count [] ≡ 0
 unfolding input_count
@@ -212,8 +200,8 @@ pub text_means : (text : List ℕ) (j n m o : ℕ) (c : Circuit) → blif text j
 text_means text j n m o c q =
     let y = text_yes text j n m o c q in
     let t : List ℕ = joined_text text in
-    let e = closed_inv t y.state c y.finished in
-    (name_wire t y.state.held, λ a ha. subst (λ (x : Circuit). Means (logical_lines text) x.nodes (wires_out x) (name_wire t y.state.held) a) (sym e.2) (made a ha y.state y.read e.0 e.1))
+    let e = finish_yes false t y.state c y.finished in
+    (name_wire t y.state.held, λ a ha. subst (λ (x : Circuit). Means (logical_lines text) x.nodes (wires_out x) (name_wire t y.state.held) a) e.2 (made a ha y.state y.read e.0 e.1))
   where
     made : (a : List ℕ) → Bits a → (s : State) → read_lines (joined_text text) (places_in n m o) false (lines 0 (joined_text text)) start ≡ Ok s
         → (os : List Out) → resolve false (joined_text text) s.held.names s.outputs ≡ Ok os

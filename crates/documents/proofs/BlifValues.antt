@@ -1,26 +1,24 @@
 -- The values of a circuit's nodes as nodes are added at its end, and the values of names as names are added.
 -- Assumes nothing.
-use Rattle.std.specs.Prelude.{None, Option, Some}
+use Rattle.std.specs.Prelude.{Some}
 use Prim.Native.Nat.{ℕ, zero, suc, ◌+◌, ◌≤◌, ◌<◌}
-use mathlib.Core.Path.{◌≡◌, refl, sym, ap, ap₂, ◌∙◌, subst}
-use mathlib.Core.Bool.{Bool, true, false, cond}
+use mathlib.Core.Path.{◌≡◌, refl, sym, ap, ap₂, ◌∙◌}
 use mathlib.Core.List.{List, [], ◌∷◌, ◌++◌, map}
 use native.Mathlib.Omega.{arith}
 use lib.ListN.{length, get_or, get_or-append}
-use Rattle.laws.specs.Stretches.{same_bytes, All}
-use Rattle.laws.proofs.Stretches.{all_append, same_eq, same_refl}
+use Rattle.laws.specs.Stretches.{All}
+use Rattle.laws.proofs.Stretches.{all_append}
 use Rattle.laws.proofs.Filling.{cond_both, snoc_last}
-use Rattle.circuit.specs.declared.records.BoolWire.{BoolWire}
-use Rattle.circuit.specs.declared.records.BoolWire.TheVariants.{Const}
 use Rattle.circuit.specs.declared.records.BoolNode.{BoolNode}
 use Rattle.circuit.specs.Records.{wire_of, is_cell_node}
-use Rattle.names.specs.Names.{Entry, name_of, lookup}
+use Rattle.names.specs.Names.{lookup}
 use Rattle.reading.specs.Reading.{Held}
-use Rattle.reading.proofs.Sound.{Wired}
+use Rattle.reading.proofs.Ended.{wire_at}
+use Rattle.reading.proofs.Sound.{Wired, lookup_below}
 use Rattle.runs.specs.Values.{signal_value, values_from, entry_of}
 use Rattle.runs.specs.Runs.{input_count}
 use Rattle.runs.proofs.Evaluating.{entry_small}
-use Rattle.documents.proofs.NodeValues.{next, values_snoc, length-values}
+use Rattle.runs.proofs.NodeValues.{next, values_snoc, length-values}
 use Rattle.documents.proofs.BlifCover.{Bits}
 
 pub bits_at : (vs : List ℕ) → Bits vs → (i : ℕ) → get_or vs i 0 < 2
@@ -64,36 +62,6 @@ module _ (a : List ℕ) where
       let e : length ns + 2 ≡ suc (suc (length (values ns))) = omega (arith, length-values entry_of a ns) in
       rw e (ap (λ (l : List ℕ). get_or l (length (values ns)) 0) (values_snoc entry_of a ns n) ∙ snoc_last (values ns) (next entry_of a (input_count ns) (values ns) n))
 
--- ---- names
-
-abbrev pub wire_at : Option ℕ → BoolWire
-wire_at (Some x) = wire_of x
-wire_at None = Const false
-
-module _ (t : List ℕ) where
-  pub lookup_below : (m : ℕ) (bytes : List ℕ) (es : List Entry) (x : ℕ) → Wired m es → lookup t bytes es ≡ Some x → x < m + 2
-  unfolding lookup
-  lookup_below m bytes [] x w q = cc
-  lookup_below m bytes (e ∷ es) x w q = go (same_bytes (name_of t e) bytes) q (lookup_below m bytes es x w.1)
-    where
-      go : (b : Bool) → cond b (Some e.wire) (lookup t bytes es) ≡ Some x → (lookup t bytes es ≡ Some x → x < m + 2) → x < m + 2
-      go true r later = let s : e.wire ≡ x = cc in omega (arith, s, w.0)
-      go false r later = later r
-
-  pub lookup_new : (e : Entry) (es : List Entry) → lookup t (name_of t e) (e ∷ es) ≡ Some e.wire
-  unfolding lookup
-  lookup_new e es = rw (same_refl (name_of t e))
-
-  pub lookup-kept : (e : Entry) (es : List Entry) (bytes : List ℕ) (x : ℕ) → lookup t (name_of t e) es ≡ None → lookup t bytes es ≡ Some x → lookup t bytes (e ∷ es) ≡ Some x
-  unfolding lookup
-  lookup-kept e es bytes x new q = go (same_bytes (name_of t e) bytes) refl
-    where
-      go : (b : Bool) → same_bytes (name_of t e) bytes ≡ b → cond b (Some e.wire) (lookup t bytes es) ≡ Some x
-      go true r =
-          let s : lookup t bytes es ≡ None = subst (λ (y : List ℕ). lookup t y es ≡ None) (same_eq (name_of t e) bytes r) new in
-          cc
-      go false r = q
-
 -- ---- what has been read, and more of it
 
 module _ (t a : List ℕ) where
@@ -129,7 +97,7 @@ module _ (t a : List ℕ) where
   pub value_kept : (h h' : Held) (name : List ℕ) → Wired (length h.nodes) h.names → Grows h h' → Known h name → value h' name ≡ value h name
   value_kept h h' name w g k =
       value_at h' name k.0 (g.names name k.0 k.1)
-      ∙ g.wires k.0 (lookup_below t (length h.nodes) name h.names k.0 w k.1)
+      ∙ g.wires k.0 (lookup_below (length h.nodes) t name h.names k.0 w k.1)
       ∙ sym (value_at h name k.0 k.1)
 
   pub values-kept : (h h' : Held) (names : List (List ℕ)) → Wired (length h.nodes) h.names → Grows h h' → All (Known h) names → map (value h') names ≡ map (value h) names

@@ -1,7 +1,7 @@
 -- A row that the reader accepts and the page speaks of: the wires follow the page's bits.
 -- Assumes nothing.
 use Rattle.std.specs.Prelude.{Err, Ok}
-use Prim.Native.Nat.{ℕ, zero, suc, ◌+◌, ◌-◌, ◌*◌, ◌%◌, ◌<◌}
+use Prim.Native.Nat.{ℕ, ◌+◌, ◌-◌, ◌*◌, ◌%◌, ◌<◌}
 use mathlib.Core.Path.{◌≡◌, refl, sym, ap, ap₂, ◌∙◌, subst}
 use mathlib.Core.Logic.{⊎_elim}
 use mathlib.Core.Bool.{Bool, true, false, cond}
@@ -12,7 +12,7 @@ use lib.Dec.{eqb, ltb}
 use lib.ListN.{length, get_or, set, take, drop}
 use borrow.Author.Tests.{eqb-true, lt-leb}
 use Rattle.laws.specs.Stretches.{same_bytes}
-use Rattle.laws.proofs.Rows.{or_cases}
+use Rattle.laws.proofs.Rows.{or_cases, one_bit, two_bits}
 use Rattle.laws.proofs.Stretches.{same_eq}
 use Rattle.laws.proofs.Filling.{length_snoc, snoc_last}
 use Rattle.circuit.specs.declared.refusals.Refusal.TheVariants.{Unknown}
@@ -64,23 +64,21 @@ record Made (n m : ℕ) (op is : Op) : Type 0 where
   count : n ≡ m
   op_is : is ≡ op
 
-xor_made : (n : ℕ) (op : Op) → operation (88 ∷ 79 ∷ 82 ∷ []) n ≡ Ok op → Made n 2 op (table 6)
-unfolding operation is_alias truth_table inverts two_input_table upper same_bytes
-xor_made n op h = go (eqb n 1) (eqb n 2) refl h
+two_inputs : (k n : ℕ) (op : Op) → and_then (cond (eqb n 1) (Err Unknown) (cond (eqb n 2) (Ok k) (Err Unknown))) (λ t. Ok (table t)) ≡ Ok op → Made n 2 op (table k)
+two_inputs k n op h = go (eqb n 1) (eqb n 2) refl h
   where
-    go : (t u : Bool) → eqb n 2 ≡ u → and_then (cond t (Err Unknown) (cond u (Ok 6) (Err Unknown))) (λ t. Ok (table t)) ≡ Ok op → Made n 2 op (table 6)
+    go : (t u : Bool) → eqb n 2 ≡ u → and_then (cond t (Err Unknown) (cond u (Ok k) (Err Unknown))) (λ t. Ok (table t)) ≡ Ok op → Made n 2 op (table k)
     go true u q h = absurd (no_yes h)
     go false true q h = record { count = eqb-true n 2 q; op_is = yes_same h }
     go false false q h = absurd (no_yes h)
 
+xor_made : (n : ℕ) (op : Op) → operation (88 ∷ 79 ∷ 82 ∷ []) n ≡ Ok op → Made n 2 op (table 6)
+unfolding operation is_alias truth_table inverts two_input_table upper same_bytes
+xor_made n op h = two_inputs 6 n op h
+
 and_made : (n : ℕ) (op : Op) → operation (65 ∷ 78 ∷ 68 ∷ []) n ≡ Ok op → Made n 2 op (table 8)
 unfolding operation is_alias truth_table inverts two_input_table upper same_bytes
-and_made n op h = go (eqb n 1) (eqb n 2) refl h
-  where
-    go : (t u : Bool) → eqb n 2 ≡ u → and_then (cond t (Err Unknown) (cond u (Ok 8) (Err Unknown))) (λ t. Ok (table t)) ≡ Ok op → Made n 2 op (table 8)
-    go true u q h = absurd (no_yes h)
-    go false true q h = record { count = eqb-true n 2 q; op_is = yes_same h }
-    go false false q h = absurd (no_yes h)
+and_made n op h = two_inputs 8 n op h
 
 inv_made : (n : ℕ) (op : Op) → operation (73 ∷ 78 ∷ 86 ∷ []) n ≡ Ok op → Made n 1 op (table 1)
 unfolding operation is_alias truth_table inverts two_input_table upper same_bytes
@@ -101,29 +99,15 @@ eqw_made n op h =
 
 xor_bit : (x y : ℕ) → x < 2 → y < 2 → entry 6 (index_from 0 (x ∷ y ∷ [])) ≡ (x + y) % 2
 unfolding index_from
-xor_bit zero zero p q = refl
-xor_bit zero (suc zero) p q = refl
-xor_bit (suc zero) zero p q = refl
-xor_bit (suc zero) (suc zero) p q = refl
-xor_bit (suc (suc x)) y p q = absurd (omega arith)
-xor_bit zero (suc (suc y)) p q = absurd (omega arith)
-xor_bit (suc zero) (suc (suc y)) p q = absurd (omega arith)
+xor_bit = two_bits (λ (x y : ℕ). entry 6 (index_from 0 (x ∷ y ∷ [])) ≡ (x + y) % 2) refl refl refl refl
 
 and-bit : (x y : ℕ) → x < 2 → y < 2 → entry 8 (index_from 0 (x ∷ y ∷ [])) ≡ x * y
 unfolding index_from
-and-bit zero zero p q = refl
-and-bit zero (suc zero) p q = refl
-and-bit (suc zero) zero p q = refl
-and-bit (suc zero) (suc zero) p q = refl
-and-bit (suc (suc x)) y p q = absurd (omega arith)
-and-bit zero (suc (suc y)) p q = absurd (omega arith)
-and-bit (suc zero) (suc (suc y)) p q = absurd (omega arith)
+and-bit = two_bits (λ (x y : ℕ). entry 8 (index_from 0 (x ∷ y ∷ [])) ≡ x * y) refl refl refl refl
 
 inv_bit : (x : ℕ) → x < 2 → entry 1 (index_from 0 (x ∷ [])) ≡ 1 - x
 unfolding index_from
-inv_bit zero p = refl
-inv_bit (suc zero) p = refl
-inv_bit (suc (suc x)) p = absurd (omega arith)
+inv_bit = one_bit (λ (x : ℕ). entry 1 (index_from 0 (x ∷ [])) ≡ 1 - x) refl refl
 
 -- ---- the drivers of one or two wires
 

@@ -12,9 +12,9 @@ use lib.ListN.{length, get_or, drop, replicate, length-append, length-set, lengt
 use lib.Seq.{drop-cons}
 use borrow.Author.Tests.{ltb-true, leb-true}
 use Rattle.std.proofs.lemmas.List.{drop-map, map-id}
+use Rattle.std.proofs.lemmas.Bool.{and_parts}
 use Rattle.laws.specs.Areas.{capacity}
 use Rattle.laws.specs.Sums.{sum}
-use Rattle.laws.proofs.Tests.{and-true}
 use Rattle.circuit.specs.declared.refusals.Refusal.TheVariants.{HeaderMismatch}
 use Rattle.circuit.specs.declared.records.BoolWire.{BoolWire}
 use Rattle.circuit.specs.declared.records.Output.{Output}
@@ -45,7 +45,7 @@ rows_follow ins room [] s s' bits f h k = subst (λ (z : State). Follows ins z b
 rows_follow ins room (l ∷ ls) s s' bits f h k =
     let a = then_yes (row_step room l s) (rows room ls) s' h in
     let b = then_yes (row s.wires (split_whitespace l)) (λ g. store room g s) a.0 a.1 in
-    let c = and-true (is_page_gate (split_whitespace l)) (all_page_gates ls) k in
+    let c = and_parts (is_page_gate (split_whitespace l)) (all_page_gates ls) k in
     rows_follow ins room ls a.0 s' (gate_step bits (split_whitespace l)) (step_follows ins s bits f room (split_whitespace l) b.0 a.0 b.1 b.2 c.0) a.2 c.1
 
 steps-length : (ls : List (List ℕ)) (bits : List ℕ) → length (gate_steps bits ls) ≡ length bits

@@ -24,7 +24,7 @@ use Rattle.circuit.proofs.Checks.{below_more}
 use Rattle.runs.specs.Values.{signal_value, values_from, entry_of}
 use Rattle.bristol_rows.specs.declared.answers.Head.{Head}
 use Rattle.bristol.specs.Bristol.{State, input_node, input_slot, start}
-use Rattle.documents.proofs.NodeValues.{values_snoc, length-values}
+use Rattle.runs.proofs.NodeValues.{values_snoc, length-values}
 
 -- ---- the values of nodes
 

@@ -1,4 +1,3 @@
-pub mod NodeValues
 pub mod BristolValues
 pub mod BristolGates
 pub mod BristolMeans

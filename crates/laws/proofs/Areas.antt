@@ -3,12 +3,13 @@
 use mathlib.Core.Path.{◌≡◌, refl, sym, ap, ap₂, ◌∙◌}
 use mathlib.Core.List.{List, [], ◌∷◌, ◌++◌, append_assoc, append-nil}
 use Prim.Native.Nat.{ℕ, zero, suc, ◌+◌, ◌-◌, ◌*◌, ◌≤◌, ◌<◌}
-use native.Mathlib.Nat.{suc-mul, zero-mul, add_assoc, zero-add, le_of_suc-le-suc, not-suc-le-zero, sub-zero, zero-sub, suc-sub-suc}
+use native.Mathlib.Nat.{suc-mul, zero-mul, add_assoc, zero-add, le_of_suc-le-suc, not-suc-le-zero, sub-zero}
 use native.Mathlib.Numerals.{add-one}
 use native.Mathlib.Omega.{arith}
 use lib.ListN.{length, set, get_or, take, drop, replicate, length-append, get_or-append}
 use lib.Seq.{paste, take-length, drop_at, take-append-add, take_at, drop-append-add, get_or-append-add}
 use Rattle.laws.specs.Areas.{encodes, stored, up_from}
+use Rattle.std.proofs.lemmas.List.{drop-replicate}
 
 -- ---- what a scan has left
 
@@ -45,11 +46,6 @@ stored_after p l v k =
     ap₂ (λ (x y : List ℕ). x ++ v ++ y) (take-append-add p l k)
     (ap (λ (n : ℕ). drop n (p ++ l)) (add_assoc (length p) k (length v)) ∙ drop-append-add p l (k + length v))
     ∙ simp append_assoc
-
-pub drop-replicate : (n m a : ℕ) → drop n (replicate m a) ≡ replicate (m - n) a
-drop-replicate zero m a = ap (λ (k : ℕ). replicate k a) (sym (sub-zero m))
-drop-replicate (suc n) zero a = ap (λ (k : ℕ). replicate k a) (sym (zero-sub (suc n)))
-drop-replicate (suc n) (suc m) a = drop-replicate n m a ∙ ap (λ (k : ℕ). replicate k a) (sym (suc-sub-suc m n))
 
 module _ {A : Type 0} (enc : A → List ℕ) where
   pub encodes-append : (xs ys : List A) → encodes enc (xs ++ ys) ≡ encodes enc xs ++ encodes enc ys
@@ -91,7 +87,7 @@ module _ {A : Type 0} (enc : A → List ℕ) where
         let Z : List ℕ = replicate m 0 in
         ap₂ (λ (p q : List ℕ). p ++ enc x ++ q) (take_at E Z (length xs * w) (length-encodes xs))
         (ap (λ (k : ℕ). drop (k + length (enc x)) (E ++ Z)) (sym (length-encodes xs))
-        ∙ drop-append-add E Z (length (enc x)) ∙ drop-replicate (length (enc x)) m 0 ∙ ap (λ (k : ℕ). replicate (m - k) 0) (wide x))
+        ∙ drop-append-add E Z (length (enc x)) ∙ drop-replicate {X = ℕ} (length (enc x)) m 0 ∙ ap (λ (k : ℕ). replicate (m - k) 0) (wide x))
         ∙ ap (λ (l : List ℕ). l ++ replicate (m - w) 0)
         (sym (encodes-append xs (x ∷ []) ∙ ap (λ (l : List ℕ). E ++ l) (append-nil (enc x))))
 

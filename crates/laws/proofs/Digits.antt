@@ -1,4 +1,4 @@
--- The bits of a number as tests: after a shift, of a power, of `or`, `and` and `xor`, and the lowest bit that is 1.
+-- The bits of a number as tests: after a shift, of a power, of `or` and `and`, and the lowest bit that is 1.
 -- Assumes nothing.
 use Prim.Native.Nat.{ℕ, zero, suc, ◌+◌, ◌-◌, ◌*◌, ◌/◌, ◌%◌, ◌^◌, ◌≤◌, ◌<◌, max, min}
 use mathlib.Core.Path.{◌≡◌, refl, sym, ap, ◌∙◌}
@@ -8,20 +8,12 @@ use native.Mathlib.Omega.{arith}
 use native.Mathlib.Nat.{zero-div, div-eq_of_lt, lt_of_not-le, pow-suc}
 use lib.Dec.{eqb, eqb-suc-suc, eqb-zero-suc, eqb-suc-zero}
 use lib.Pow.{shr-shr, shl_exact}
-use lib.Bits.{bit_and, bit_or, bit_xor, differ, and_shr, or_shr, xor_shr, and_step, or_step, xor_step}
+use lib.Bits.{bit_and, bit_or, and_shr, or_shr, and_step, or_step}
 use lib.Count.{count_trailing_zeros, under}
 use borrow.Author.Tests.{eq-eqb}
+use Rattle.std.proofs.Math.Bool.{or-true}
 use Rattle.laws.specs.Digits.{is_set, Turned}
-use Rattle.laws.proofs.Tests.{or_true}
-
--- a test with `true`, and with `false`
-pub and_last : (t : Bool) → t && true ≡ t
-and_last true = refl
-and_last false = refl
-
-pub and_none : (t : Bool) → t && false ≡ false
-and_none true = refl
-and_none false = refl
+use Rattle.laws.proofs.Rows.{two_bits}
 
 pub bit-zero : (b : ℕ) → is_set 0 b ≡ false
 unfolding is_set
@@ -58,24 +50,9 @@ bit_power (suc s) (suc b) =
 
 -- the bits of two numbers, taken together one by one
 
-abbrev apart : Bool → Bool → Bool
-apart true t = not t
-apart false t = t
-
 -- where an operation takes bits p and q to f p q, a test of the result's bit goes by the tests of the two
 by_bit : (f : ℕ → ℕ → ℕ) (g : Bool → Bool → Bool) → eqb (f 0 0) 1 ≡ g false false → eqb (f 0 1) 1 ≡ g false true → eqb (f 1 0) 1 ≡ g true false → eqb (f 1 1) 1 ≡ g true true → (p q : ℕ) → p < 2 → q < 2 → eqb (f p q) 1 ≡ g (eqb p 1) (eqb q 1)
-by_bit f g a b c d zero zero h l = a
-by_bit f g a b c d zero (suc zero) h l = b
-by_bit f g a b c d (suc zero) zero h l = c
-by_bit f g a b c d (suc zero) (suc zero) h l = d
-by_bit f g a b c d (suc (suc p)) q h l = absurd (omega arith)
-by_bit f g a b c d zero (suc (suc q)) h l = absurd (omega arith)
-by_bit f g a b c d (suc zero) (suc (suc q)) h l = absurd (omega arith)
-
-differ_small : (p q : ℕ) → p < 2 → q < 2 → differ p q < 2
-differ_small zero q h l = l
-differ_small (suc p) zero h l = h
-differ_small (suc p) (suc q) h l = differ_small p q (omega arith) (omega arith)
+by_bit f g a b c d = two_bits (λ (p q : ℕ). eqb (f p q) 1 ≡ g (eqb p 1) (eqb q 1)) a b c d
 
 pub bit-or : (x y b : ℕ) → is_set (bit_or x y) b ≡ is_set x b || is_set y b
 unfolding is_set
@@ -92,14 +69,6 @@ bit-and x y b =
     let v = y / 2 ^ b in
     let e : bit_and x y / 2 ^ b % 2 ≡ min (u % 2) (v % 2) = omega (arith, and_shr x y b, and_step u v) in
     ap (λ (z : ℕ). eqb z 1) e ∙ by_bit min ◌&&◌ refl refl refl refl (u % 2) (v % 2) (omega arith) (omega arith)
-
-pub bit-xor : (x y b : ℕ) → is_set (bit_xor x y) b ≡ apart (is_set x b) (is_set y b)
-unfolding is_set
-bit-xor x y b =
-    let u = x / 2 ^ b in
-    let v = y / 2 ^ b in
-    let e : bit_xor x y / 2 ^ b % 2 ≡ differ (u % 2) (v % 2) = omega (arith, xor_shr x y b, xor_step u v, differ_small (u % 2) (v % 2) (omega arith) (omega arith)) in
-    ap (λ (z : ℕ). eqb z 1) e ∙ by_bit differ apart refl refl refl refl (u % 2) (v % 2) (omega arith) (omega arith)
 
 -- the lowest bit that is 1
 pub record Lowest (x t : ℕ) : Type 0 where
@@ -121,7 +90,7 @@ lowest (suc k) x h n = go (x % 2) refl (lowest k (x / 2) (omega (arith, pow-suc 
         down f (suc b) l = bit-suc x b ∙ f b (omega arith)
     go (suc d) e rest = let q : x / 2 ^ 0 % 2 ≡ 1 = omega arith in record { at = rw q; below = λ b l. absurd (omega arith) }
 
--- one bit set, and one cleared
+-- one bit set
 
 shl_one : (s : ℕ) → s < 64 → 1 * 2 ^ s % 18446744073709551616 ≡ 2 ^ s
 shl_one s h = shl_exact {a = 1} 1 s 64 (omega arith) (omega arith) ∙ one_of (2 ^ s)
@@ -131,14 +100,6 @@ shl_one s h = shl_exact {a = 1} 1 s 64 (omega arith) (omega arith) ∙ one_of (2
 
 pub turned_on : (x b : ℕ) → b < 64 → (up : Bool) → up ≡ true → Turned up x b (bit_or x (1 * 2 ^ b % 18446744073709551616))
 turned_on x b h up e j = rw (shl_one b h, e) (bit-or x (2 ^ b) j ∙ ap (λ (t : Bool). is_set x j || t) (bit_power b j))
-
-pub turned_off : (x b : ℕ) → b < 64 → (up : Bool) → up ≡ false → Turned up x b (bit_xor x (bit_and x (1 * 2 ^ b % 18446744073709551616)))
-turned_off x b h up e j =
-    rw (shl_one b h, e) (bit-xor x (bit_and x (2 ^ b)) j ∙ ap (apart (is_set x j)) (bit-and x (2 ^ b) j ∙ ap (λ (t : Bool). is_set x j && t) (bit_power b j)) ∙ go (is_set x j) (eqb j b))
-  where
-    go : (s t : Bool) → apart s (s && t) ≡ s && not t
-    go true t = refl
-    go false t = refl
 
 -- where the bit was cleared, a number that is left was there before; where it was set, there is one
 
@@ -156,4 +117,4 @@ off_some x b y t h =
     left false t e = e
 
 pub on_some : (x b y : ℕ) → Turned true x b y → y ≢ 0
-on_some x b y t = bit-some y b (t b ∙ rw (eq-eqb b b refl) (or_true (is_set x b)))
+on_some x b y t = bit-some y b (t b ∙ rw (eq-eqb b b refl) (or-true (is_set x b)))

@@ -3,14 +3,14 @@
 use mathlib.Core.Path.{◌≡◌, refl, sym, ap, ap₂, ◌∙◌}
 use mathlib.Core.Bool.{Bool, true, false, cond}
 use mathlib.Core.List.{List, [], ◌∷◌, ◌++◌, append_assoc}
-use Prim.Native.Nat.{ℕ, zero, suc, ◌+◌, ◌-◌, ◌<◌}
+use Prim.Native.Nat.{ℕ, suc, ◌+◌, ◌-◌, ◌<◌}
 use native.Mathlib.Numerals.{add-one}
 use native.Mathlib.Omega.{arith}
-use lib.Dec.{eqb, ltb}
-use borrow.Author.Tests.{ltb-true, ltb-false, eqb-true, eqb-false}
+use lib.Dec.{ltb}
+use borrow.Author.Tests.{ltb-true, ltb-false}
 use lib.ListN.{length, get_or, set, take, drop, replicate, length-append, length-replicate, get_or-replicate, get_or-append, get_or-eq_default}
-use lib.Seq.{drop-cons, take-suc, set_at, length-take-le, get_or-append_seam, get_or-set_same, get_or-set_other}
-use Rattle.laws.proofs.Areas.{drop-replicate}
+use lib.Seq.{drop-cons, take-suc, set_at, length-take-le, get_or-append_seam}
+use Rattle.std.proofs.lemmas.List.{drop-replicate}
 
 -- ---- a choice
 
@@ -38,12 +38,7 @@ module _ (l : List ℕ) (x : ℕ) where
   pub snoc_past : (k : ℕ) → length l < k → get_or (l ++ x ∷ []) k 0 ≡ 0
   snoc_past k h = get_or-eq_default (l ++ x ∷ []) 0 (omega (arith, length_snoc l x))
 
--- ---- a list in two parts, and filled from the front
-
-pub parts_at : (l : List ℕ) (i : ℕ) → i < length l → l ≡ take i l ++ get_or l i 0 ∷ drop (suc i) l
-parts_at [] i h = absurd (omega arith)
-parts_at (x ∷ l) zero h = refl
-parts_at (x ∷ l) (suc i) h = ap (λ (t : List ℕ). x ∷ t) (parts_at l i (omega arith))
+-- ---- a list filled from the front
 
 pub take_next : (l : List ℕ) (i : ℕ) → i < length l → take i l ++ get_or l i 0 ∷ [] ≡ take (i + 1) l
 take_next l i h = sym (take-suc l i 0 h) ∙ ap (λ (k : ℕ). take k l) (sym (add-one i))
@@ -58,9 +53,9 @@ fill_next full a j h g =
 
 -- what was zeros is zeros after what was filled in
 pub filled_zeros : (a b : List ℕ) (n count : ℕ) (full : List ℕ) → a ≡ full ++ drop count b → b ≡ replicate n 0 → a ≡ full ++ replicate (n - count) 0
-filled_zeros a b n count full e f = e ∙ ap (λ (l : List ℕ). full ++ l) (ap (drop count) f ∙ drop-replicate count n 0)
+filled_zeros a b n count full e f = e ∙ ap (λ (l : List ℕ). full ++ l) (ap (drop count) f ∙ drop-replicate {X = ℕ} count n 0)
 
--- ---- zeros, and a bound kept by a store
+-- ---- zeros
 
 pub zero_at : (n i : ℕ) → ◌≡◌ {A = ℕ} (get_or (replicate n 0) i 0) 0
 zero_at n i = go (ltb i n) refl
@@ -68,17 +63,3 @@ zero_at n i = go (ltb i n) refl
     go : (t : Bool) → ltb i n ≡ t → ◌≡◌ {A = ℕ} (get_or (replicate n 0) i 0) 0
     go true e = get_or-replicate n i 0 0 (ltb-true i n e)
     go false e = get_or-eq_default (replicate n 0) 0 (omega (arith, length-replicate {A = ℕ} n 0, ltb-false i n e))
-
--- the elements below k are below a bound, and so is the one stored at k
-pub bounded_next : (bound : ℕ) (s : List ℕ) (k v : ℕ) (after : List ℕ) → k < length s → after ≡ set s k v → v < bound → ((i : ℕ) → i < k → get_or s i 0 < bound)
-    → (i : ℕ) → i < k + 1 → get_or after i 0 < bound
-bounded_next bound s k v after l e g h i m = go (eqb i k) refl
-  where
-    go : (t : Bool) → eqb i k ≡ t → get_or after i 0 < bound
-    go true q =
-        let at : i ≡ k = eqb-true i k q in
-        let z : get_or after i 0 ≡ v = ap₂ (λ (x : List ℕ) (j : ℕ). get_or x j 0) e at ∙ get_or-set_same s k v 0 l in
-        omega (arith, z)
-    go false q =
-        let z : get_or after i 0 ≡ get_or s i 0 = ap (λ (x : List ℕ). get_or x i 0) e ∙ get_or-set_other s k i v 0 (eqb-false i k q) in
-        omega (arith, z, h i (omega (arith, eqb-false i k q)))

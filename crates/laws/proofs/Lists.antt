@@ -1,6 +1,6 @@
 -- Numbers in a list, and the numbers of a range that pass a test.
 -- Assumes nothing.
-use Prim.Native.Nat.{ℕ, zero, suc, ◌+◌, ◌-◌, ◌≤◌, ◌<◌}
+use Prim.Native.Nat.{ℕ, zero, suc, ◌+◌, ◌≤◌, ◌<◌}
 use mathlib.Core.Path.{◌≡◌, refl, sym, ap, ◌∙◌}
 use mathlib.Core.Logic.{◌⊎◌, inl, inr, ◌≢◌}
 use mathlib.Core.Bool.{Bool, true, false, ◌||◌, false≢true}
@@ -11,23 +11,23 @@ use lib.Dec.{eqb}
 use lib.ListN.{length, get_or, take, drop, drop_of_length-le}
 use lib.Seq.{drop-cons}
 use borrow.Author.Tests.{eqb-true, eqb-false, eq-eqb, ne_eqb}
-use Rattle.laws.specs.Areas.{up_from}
+use Rattle.std.proofs.Math.Bool.{or-false, or-true, or_assoc}
+use Rattle.std.proofs.lemmas.Bool.{false_from_ne_true, or_parts}
 use Rattle.laws.specs.Lists.{elem, keep, numbers, some}
-use Rattle.laws.proofs.Areas.{up_more, up_none}
-use Rattle.laws.proofs.Tests.{clash, neither, false_of, or_assoc, or_false, or_true}
+use Rattle.laws.proofs.Tests.{clash}
 
 pub elem-append : (k : ℕ) (s t : List ℕ) → elem k (s ++ t) ≡ elem k s || elem k t
 elem-append k [] t = refl
 elem-append k (x ∷ s) t = ap (λ z. eqb k x || z) (elem-append k s t) ∙ sym (or_assoc (eqb k x) (elem k s) (elem k t))
 
 pub elem_snoc_same : (p : ℕ) (t : List ℕ) → elem p (t ++ p ∷ []) ≡ true
-elem_snoc_same p t = rw (elem-append p t (p ∷ []), eq-eqb p p refl) (or_true (elem p t))
+elem_snoc_same p t = rw (elem-append p t (p ∷ []), eq-eqb p p refl) (or-true (elem p t))
 
 pub elem_snoc_more : (k p : ℕ) (t : List ℕ) → elem k t ≡ true → elem k (t ++ p ∷ []) ≡ true
 elem_snoc_more k p t h = rw (elem-append k t (p ∷ []), h)
 
 pub elem_snoc_other : (k p : ℕ) (t : List ℕ) → k ≢ p → elem k (t ++ p ∷ []) ≡ elem k t
-elem_snoc_other k p t h = rw (elem-append k t (p ∷ []), ne_eqb k p h) (or_false (elem k t))
+elem_snoc_other k p t h = rw (elem-append k t (p ∷ []), ne_eqb k p h) (or-false (elem k t))
 
 pub elem-cons-split : (k x : ℕ) (xs : List ℕ) → elem k (x ∷ xs) ≡ true → (k ≡ x) ⊎ (elem k xs ≡ true)
 elem-cons-split k x xs h = go (eqb k x) refl
@@ -73,7 +73,7 @@ in_numbers p from (suc n) k h a b = go (p from) refl (eqb k from) refl (λ g. in
     go false e false q below = rw e (below (omega (arith, eqb-false k from q)))
 
 pub numbers-none : (p : ℕ → Bool) (n k : ℕ) → numbers p 0 n ≡ [] → k < n → p k ≡ false
-numbers-none p n k e h = false_of (p k) (λ q. false≢true (sym (ap (elem k) e) ∙ in_numbers p 0 n k q (omega arith) (omega arith)))
+numbers-none p n k e h = false_from_ne_true (p k) (λ q. false≢true (sym (ap (elem k) e) ∙ in_numbers p 0 n k q (omega arith) (omega arith)))
 
 -- two tests that agree on every number pass the same numbers
 pub numbers_same : (p q : ℕ → Bool) (from n : ℕ) → ((k : ℕ) → from ≤ k → k < from + n → q k ≡ p k) → numbers q from n ≡ numbers p from n
@@ -107,12 +107,8 @@ unfolding numbers
 numbers-empty p from zero h = refl
 numbers-empty p from (suc n) h = rw (h from (omega arith) (omega arith)) (numbers-empty p (suc from) n (λ k a b. h k (omega arith) (omega arith)))
 
-pub empty_of_length : (l : List ℕ) → length l ≡ 0 → l ≡ []
-empty_of_length [] e = refl
-empty_of_length (x ∷ xs) e = absurd (omega arith)
-
 pub elem-later : (k x : ℕ) (xs : List ℕ) → elem k xs ≡ true → elem k (x ∷ xs) ≡ true
-elem-later k x xs h = rw h (or_true (eqb k x))
+elem-later k x xs h = rw h (or-true (eqb k x))
 
 pub elem_here : (k x : ℕ) (xs : List ℕ) → k ≡ x → elem k (x ∷ xs) ≡ true
 elem_here k x xs e = rw (eq-eqb k x e)
@@ -138,23 +134,13 @@ module _ {A : Type 0} (p : A → Bool) (l : List A) (d : A) (k : ℕ) where
 pub some_past : {A : Type 0} (p : A → Bool) (l : List A) (k : ℕ) → length l ≤ k → some p (drop k l) ≡ false
 some_past p l k h = rw (drop_of_length-le l h)
 
-module _ {A : Type 0} (p : A → Bool) (f : ℕ → A) (m i : ℕ) where
-  pub up_here : i < m → p (f i) ≡ true → some p (up_from f i (m - i)) ≡ true
-  up_here h e = rw (up_more f i m h, e)
-
-  pub up_later : i < m → p (f i) ≡ false → some p (up_from f i (m - i)) ≡ some p (up_from f (i + 1) (m - (i + 1)))
-  up_later h e = rw (up_more f i m h, e)
-
-  pub up_past : m ≤ i → some p (up_from f i (m - i)) ≡ false
-  up_past h = rw (up_none f i m h)
-
 -- none of a list passes: then not the one at k
 pub none_at : {A : Type 0} (p : A → Bool) (l : List A) (d : A) (k : ℕ) → k < length l → some p l ≡ false → p (get_or l k d) ≡ false
 none_at p [] d k h e = absurd (omega arith)
-none_at p (x ∷ xs) d zero h e = (neither (p x) (some p xs) e).0
-none_at p (x ∷ xs) d (suc k) h e = none_at p xs d k (omega arith) (neither (p x) (some p xs) e).1
+none_at p (x ∷ xs) d zero h e = (or_parts (p x) (some p xs) e).0
+none_at p (x ∷ xs) d (suc k) h e = none_at p xs d k (omega arith) (or_parts (p x) (some p xs) e).1
 
 -- where no element passes a test, none passes a narrower one
 pub none_narrower : {A : Type 0} (p q : A → Bool) → ((a : A) → p a ≡ false → q a ≡ false) → (l : List A) → some p l ≡ false → some q l ≡ false
 none_narrower p q h [] e = refl
-none_narrower p q h (x ∷ xs) e = rw (h x (neither (p x) (some p xs) e).0) (none_narrower p q h xs (neither (p x) (some p xs) e).1)
+none_narrower p q h (x ∷ xs) e = rw (h x (or_parts (p x) (some p xs) e).0) (none_narrower p q h xs (or_parts (p x) (some p xs) e).1)

@@ -1,15 +1,12 @@
 -- A part of a slice that reaches its end, the slice after the part was changed, and areas of zeros.
 -- Assumes nothing.
-use Prim.Native.Nat.{ℕ, zero, suc, ◌-◌, ◌≤◌, ◌<◌}
-use mathlib.Core.Path.{◌≡◌, refl, sym, ap, ◌∙◌}
+use Prim.Native.Nat.{ℕ, ◌-◌, ◌≤◌, ◌<◌}
+use mathlib.Core.Path.{◌≡◌, sym, ap, ◌∙◌}
 use mathlib.Core.List.{List, ◌++◌, append-nil}
-use native.Mathlib.Omega.{arith}
-use lib.ListN.{length, get_or, drop, take, replicate, length-drop, length-replicate}
-use lib.Seq.{take_all, get_or-take, length-take-le, drop_at, drop-length}
+use lib.ListN.{length, get_or, drop, take, replicate}
+use lib.Seq.{get_or-take, length-take-le, drop_at, drop-length}
 use borrow.Rule.Slice.PartMut.{put_mid, take_put, Post-is}
-
-pub part_rest : (m : ℕ) (l : List ℕ) → take (length l - m) (drop m l) ≡ drop m l
-part_rest m l = take_all (length l - m) (drop m l) (omega (arith, length-drop m l))
+use Rattle.laws.proofs.Filling.{zero_at}
 
 -- the slice after the part was changed: the part itself, and the words before it
 module _ (m : ℕ) (l part : List ℕ) (size : m ≤ length l) where
@@ -23,14 +20,5 @@ module _ (m : ℕ) (l part : List ℕ) (size : m ≤ length l) where
 
 -- zeros
 
-pub zeros_at : (n k : ℕ) → ◌≡◌ {A = ℕ} (get_or (replicate n 0) k 0) 0
-zeros_at zero k = refl
-zeros_at (suc n) zero = refl
-zeros_at (suc n) (suc k) = zeros_at n k
-
 pub cleared_at : (l : List ℕ) (n k : ℕ) → l ≡ replicate n 0 → get_or l k 0 ≡ 0
-cleared_at l n k e = ap (λ (z : List ℕ). get_or z k 0) e ∙ zeros_at n k
-
--- a list of zeros is zeros of its own length
-pub cleared_is : (l : List ℕ) (n m : ℕ) → l ≡ replicate n 0 → length l ≡ m → l ≡ replicate m 0
-cleared_is l n m e f = e ∙ ap (λ (k : ℕ). replicate k 0) (sym (length-replicate n 0) ∙ sym (ap length e) ∙ f)
+cleared_at l n k e = ap (λ (z : List ℕ). get_or z k 0) e ∙ zero_at n k

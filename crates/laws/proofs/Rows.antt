@@ -1,26 +1,14 @@
--- What rows and tables lean on: lists mapped, a bit's two cases, and the bits of zero and of ones.
+-- What rows and tables lean on: a bit's two cases, and the bits of zero and of ones.
 -- Assumes nothing.
 use Prim.Native.Nat.{ℕ, zero, suc, ◌+◌, ◌-◌, ◌*◌, ◌/◌, ◌%◌, ◌^◌, ◌≤◌, ◌<◌}
 use mathlib.Core.Path.{◌≡◌, refl, ap, ◌∙◌}
 use mathlib.Core.Logic.{◌⊎◌, inl, inr}
 use mathlib.Core.Bool.{Bool, true, false, ◌||◌}
-use mathlib.Core.List.{List, [], ◌∷◌, ◌++◌, map}
 use native.Mathlib.Nat.{zero-div}
 use native.Mathlib.Omega.{arith}
 use lib.Arith.{digits_mod}
-use lib.ListN.{length}
 use lib.Pow.{shl_exact, ones_split, ones_lt, high}
 use Rattle.laws.specs.Bits.{bit}
-
--- ---- lists
-
-pub length-map : {A B : Type 0} (f : A → B) (l : List A) → length (map f l) ≡ length l
-length-map f [] = refl
-length-map f (x ∷ xs) = ap suc (length-map f xs)
-
-pub map-append : {A B : Type 0} (f : A → B) (xs ys : List A) → map f (xs ++ ys) ≡ map f xs ++ map f ys
-map-append f [] ys = refl
-map-append f (x ∷ xs) ys = ap (λ l. f x ∷ l) (map-append f xs ys)
 
 -- ---- cases
 
@@ -28,12 +16,15 @@ pub or_cases : (a b : Bool) → a || b ≡ true → (a ≡ true) ⊎ (b ≡ true
 or_cases true b e = inl refl
 or_cases false b e = inr e
 
-pub bit_cases : (v : ℕ) → v < 2 → (v ≡ 0) ⊎ (v ≡ 1)
-bit_cases zero h = inl refl
-bit_cases (suc zero) h = inr refl
-bit_cases (suc (suc v)) h = absurd (omega arith)
+-- what holds of 0 and of 1 holds of a bit, and what holds of the four pairs of bits of two
+pub one_bit : (P : ℕ → Type 0) → P 0 → P 1 → (x : ℕ) → x < 2 → P x
+one_bit P a b zero h = a
+one_bit P a b (suc zero) h = b
+one_bit P a b (suc (suc x)) h = absurd (omega arith)
 
--- ---- zero, a power of two, and ones
+pub two_bits : (P : ℕ → ℕ → Type 0) → P 0 0 → P 0 1 → P 1 0 → P 1 1 → (x y : ℕ) → x < 2 → y < 2 → P x y
+two_bits P a b c d x y h k =
+    one_bit (λ (x : ℕ). (y : ℕ) → y < 2 → P x y) (one_bit (λ (y : ℕ). P 0 y) a b) (one_bit (λ (y : ℕ). P 1 y) c d) x h y k
 
 pub zero_bit : (k : ℕ) → bit 0 k ≡ 0
 zero_bit k = ap (λ (x : ℕ). x % 2) (zero-div (2 ^ k))

@@ -3,20 +3,17 @@
 use Prim.Native.Nat.{ℕ, zero, suc, ◌+◌, ◌-◌, ◌≤◌, ◌<◌}
 use mathlib.Core.Path.{◌≡◌, refl, sym, ap, ap₂, ◌∙◌}
 use mathlib.Core.Bool.{Bool, true, false, cond, ◌&&◌, false≢true}
-use mathlib.Core.List.{List, [], ◌∷◌, ◌++◌, append_assoc, append-nil, map}
-use native.Mathlib.Nat.{add-zero, sub-zero, suc-sub-suc}
+use mathlib.Core.List.{List, [], ◌∷◌, ◌++◌}
+use native.Mathlib.Nat.{sub-zero, suc-sub-suc}
 use native.Mathlib.Numerals.{add-one}
 use native.Mathlib.Omega.{arith}
-use lib.ListN.{length, get_or, take, drop, set, replicate, length-take, length-drop, drop_of_length-le}
-use lib.Seq.{drop-cons, drop-drop, take-nil, take-suc, take-take, take-length, take_all, take-suc-set, get_or-drop, get_or-take}
+use lib.ListN.{length, get_or, take, drop, length-take, length-drop}
+use lib.Seq.{drop-cons, drop-drop, take-nil, take-take, take-length, get_or-drop, get_or-take}
 use lib.Dec.{eqb, eqb-suc-zero}
-use borrow.Author.Tests.{eq-eqb, ne_eqb, eqb-true}
+use borrow.Author.Tests.{eq-eqb, eqb-true}
 use Rattle.laws.specs.Stretches.{stretch, run, same_bytes, is_empty, All}
 
--- ---- what is left of a stretch at its start, after i elements, and at its end
-
-pub rest_start : (t : List ℕ) (s n : ℕ) → stretch t (s + 0) (n - 0) ≡ stretch t s n
-rest_start t s n = rw (add-zero s, sub-zero n)
+-- ---- what is left of a stretch after i elements, and at its end
 
 pub rest_step : (t : List ℕ) (s n i : ℕ) → i < n → s + n ≤ length t → stretch t (s + i) (n - i) ≡ get_or t (s + i) 0 ∷ stretch t (s + (i + 1)) (n - (i + 1))
 unfolding stretch
@@ -47,14 +44,6 @@ head_step t s n h k =
     let l : s < length t = omega arith in
     let q : n ≡ suc (n - 1) = omega arith in
     rw (drop-cons t s 0 l, add-one s) (ap (λ (m : ℕ). take m (get_or t s 0 ∷ drop (suc s) t)) q)
-
--- by its last element
-pub stretch_snoc : (t : List ℕ) (s n : ℕ) → 0 < n → s + n ≤ length t → stretch t s n ≡ stretch t s (n - 1) ++ (get_or t (s + (n - 1)) 0 ∷ [])
-unfolding stretch
-stretch_snoc t s n h k =
-    let q : n ≡ suc (n - 1) = omega arith in
-    let l : n - 1 < length (drop s t) = simp length-drop (omega arith) in
-    ap (λ (m : ℕ). take m (drop s t)) q ∙ take-suc (drop s t) (n - 1) 0 l ∙ ap (λ (b : ℕ). take (n - 1) (drop s t) ++ (b ∷ [])) (get_or-drop s t (n - 1) 0)
 
 pub stretch-none : (t : List ℕ) (s n : ℕ) → n ≡ 0 → stretch t s n ≡ []
 unfolding stretch
@@ -110,14 +99,6 @@ stretch-stretch t s n k m h =
 -- ---- runs
 
 module _ (p : ℕ → Bool) (t : List ℕ) (s e : ℕ) where
-  pub run_on : s < e → e ≤ length t → p (get_or t s 0) ≡ true → s + 1 + run p (stretch t (s + 1) (e - (s + 1))) ≡ s + run p (stretch t s (e - s))
-  unfolding run
-  run_on h k q = rw (part_step t s e h k, q) (omega arith)
-
-  pub run-stop : s < e → e ≤ length t → p (get_or t s 0) ≡ false → s ≡ s + run p (stretch t s (e - s))
-  unfolding run
-  run-stop h k q = rw (part_step t s e h k, q) (omega arith)
-
   pub run_end : e ≤ s → s ≡ s + run p (stretch t s (e - s))
   unfolding run
   run_end h = rw (rest_end t s e s h) (omega arith)
@@ -169,14 +150,6 @@ unfolding same_bytes
 same_refl [] = refl
 same_refl (x ∷ xs) = rw (eq-eqb x x refl) (same_refl xs)
 
-pub same_on : (x y : ℕ) (xs ys : List ℕ) → x ≡ y → same_bytes xs ys ≡ same_bytes (x ∷ xs) (y ∷ ys)
-unfolding same_bytes
-same_on x y xs ys e = rw (eq-eqb x y e)
-
-pub same_not : (x y : ℕ) (xs ys : List ℕ) → (x ≡ y → ⊥) → false ≡ same_bytes (x ∷ xs) (y ∷ ys)
-unfolding same_bytes
-same_not x y xs ys e = rw (ne_eqb x y e)
-
 -- lists of other lengths are not the same
 pub other_length : (x y : List ℕ) → (length x ≡ length y → ⊥) → false ≡ same_bytes x y
 other_length x y ne = go (same_bytes x y) refl
@@ -184,36 +157,6 @@ other_length x y ne = go (same_bytes x y) refl
     go : (r : Bool) → same_bytes x y ≡ r → false ≡ r
     go false e = refl
     go true e = absurd (ne (ap length (same_eq x y e)))
-
--- a stretch, each element taken by f, against a given list
-module _ (f : ℕ → ℕ) (t : List ℕ) (s n : ℕ) (w : List ℕ) where
-  pub word_other : s + n ≤ length t → (n ≡ length w → ⊥) → false ≡ same_bytes (map f (stretch t s n)) w
-  word_other h ne = other_length (map f (stretch t s n)) w (λ e. ne (sym (length-stretch t s n h) ∙ sym (size (stretch t s n)) ∙ e))
-    where
-      size : (l : List ℕ) → length (map f l) ≡ length l
-      size [] = refl
-      size (x ∷ xs) = ap suc (size xs)
-
-  pub word-start : same_bytes (map f (stretch t (s + 0) (n - 0))) (drop 0 w) ≡ same_bytes (map f (stretch t s n)) w
-  word-start = rw (rest_start t s n)
-
-  module _ (i : ℕ) (q : n ≡ length w) where
-    pub word-step : i < n → s + n ≤ length t → f (get_or t (s + i) 0) ≡ get_or w i 0
-        → same_bytes (map f (stretch t (s + (i + 1)) (n - (i + 1)))) (drop (i + 1) w) ≡ same_bytes (map f (stretch t (s + i) (n - i))) (drop i w)
-    word-step h k e =
-        let l : i < length w = omega arith in
-        rw (rest_step t s n i h k, drop-cons w i 0 l, add-one i) (same_on _ _ _ _ e)
-
-    pub word-not : i < n → s + n ≤ length t → (f (get_or t (s + i) 0) ≡ get_or w i 0 → ⊥) → false ≡ same_bytes (map f (stretch t (s + i) (n - i))) (drop i w)
-    word-not h k e =
-        let l : i < length w = omega arith in
-        rw (rest_step t s n i h k, drop-cons w i 0 l) (same_not _ _ _ _ e)
-
-    pub word_end : n ≤ i → true ≡ same_bytes (map f (stretch t (s + i) (n - i))) (drop i w)
-    unfolding same_bytes
-    word_end h =
-        let l : length w ≤ i = omega arith in
-        rw (rest_end t (s + i) n i h, drop_of_length-le w l)
 
 -- ---- facts of each element
 
@@ -233,29 +176,3 @@ all_at P (x ∷ xs) (suc i) p h = all_at P xs i p.1 (omega arith)
 pub empty-length : {A : Type 0} (l : List A) → eqb (length l) 0 ≡ is_empty l
 empty-length [] = refl
 empty-length (x ∷ xs) = eqb-suc-zero (length xs)
-
--- ---- zeros from a place on
-
-zeros_more : (n : ℕ) → ◌≡◌ {A = List ℕ} (replicate n 0 ++ (0 ∷ [])) (0 ∷ replicate n 0)
-zeros_more zero = refl
-zeros_more (suc n) = ap (λ (l : List ℕ). 0 ∷ l) (zeros_more n)
-
-module _ (old : List ℕ) (from : ℕ) where
-  pub clear_start : take from old ≡ take from old ++ replicate (from - from) 0
-  clear_start =
-      let z : from - from ≡ 0 = omega arith in
-      rw z (sym (append-nil (take from old)))
-
-  pub clear_step : (new : List ℕ) (i : ℕ) → from ≤ i → i < length new → take i new ≡ take from old ++ replicate (i - from) 0
-      → take (i + 1) (set new i 0) ≡ take from old ++ replicate (i + 1 - from) 0
-  clear_step new i h k e =
-      let q : i + 1 - from ≡ suc (i - from) = omega arith in
-      rw (q, add-one i)
-      (take-suc-set new i 0 k ∙ ap (λ (l : List ℕ). l ++ (0 ∷ [])) e ∙ append_assoc (take from old) (replicate (i - from) 0) (0 ∷ [])
-      ∙ ap (λ (l : List ℕ). take from old ++ l) (zeros_more (i - from)))
-
-  pub clear_end : (new : List ℕ) (i : ℕ) → length new ≡ length old → length new ≤ i → take i new ≡ take from old ++ replicate (i - from) 0 → i ≤ length new
-      → new ≡ take from old ++ replicate (length old - from) 0
-  clear_end new i l h e k =
-      let q : i - from ≡ length old - from = omega arith in
-      sym (take_all i new h) ∙ e ∙ ap (λ (n : ℕ). take from old ++ replicate n 0) q

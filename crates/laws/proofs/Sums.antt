@@ -1,12 +1,12 @@
 -- Lists written from the front, zeros, and areas of records with zeros after them.
 -- Assumes nothing.
-use mathlib.Core.Path.{◌≡◌, refl, sym, ap, ap₂, ◌∙◌}
+use mathlib.Core.Path.{◌≡◌, sym, ap, ap₂, ◌∙◌}
 use mathlib.Core.List.{List, [], ◌∷◌, ◌++◌, append_assoc}
 use Prim.Native.Nat.{ℕ, zero, suc, ◌+◌, ◌-◌, ◌*◌, ◌≤◌, ◌<◌}
 use native.Mathlib.Nat.{add-zero, zero-add, suc-mul}
 use native.Mathlib.Numerals.{add-one}
 use native.Mathlib.Omega.{arith}
-use lib.ListN.{length, get_or, set, take, drop, replicate, get_or-append}
+use lib.ListN.{length, get_or, set, drop, replicate, get_or-append}
 use lib.Seq.{drop-cons, set_at, get_or-append-add}
 use Rattle.laws.specs.Areas.{encodes, stored, up_from}
 use Rattle.laws.proofs.Areas.{length_up, append_record}
@@ -43,17 +43,6 @@ pub past_front : (xs : List ℕ) (n k : ℕ) → length xs ≤ k → get_or (xs 
 past_front xs n k h =
     let q : k ≡ length xs + (k - length xs) = omega arith in
     ap (λ (j : ℕ). get_or (xs ++ replicate n 0) j 0) q ∙ get_or-append-add xs (replicate n 0) (k - length xs) 0 ∙ zero_at n (k - length xs)
-
-pub take_zeros : (k n : ℕ) → k ≤ n → take {A = ℕ} k (replicate n 0) ≡ replicate k 0
-take_zeros zero n h = refl
-take_zeros (suc k) zero h = absurd (omega arith)
-take_zeros (suc k) (suc n) h = ap (λ (l : List ℕ). 0 ∷ l) (take_zeros k n (omega arith))
-
-pub zeros_append : (k n : ℕ) → replicate {A = ℕ} k 0 ++ replicate n 0 ≡ replicate (k + n) 0
-zeros_append zero n = ap (λ (m : ℕ). replicate m 0) (sym (zero-add n))
-zeros_append (suc k) n =
-    let q : suc k + n ≡ suc (k + n) = omega arith in
-    ap (λ (l : List ℕ). 0 ∷ l) (zeros_append k n) ∙ ap (λ (m : ℕ). replicate m 0) (sym q)
 
 -- ---- the next record of an area, its other words zero
 

@@ -36,7 +36,7 @@ fn replay(rt: &impl Print, recorded: &[u8]) -> io::Result<()> {
     let mut rest = recorded;
     let mut records: u64 = 0;
     let mut same: u64 = 0;
-    // Each record says where the next begins, so there is no range to count over.
+    // Each record says where the next begins. One loop for both replays would take a record's reader and what one cut off means: longer than both.
     while !rest.is_empty() {
         let Some((text, after)) = split_counted(rest) else {
             return Ok(());

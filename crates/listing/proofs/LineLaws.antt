@@ -1,36 +1,19 @@
 -- Laws of the lines of a listing.
 -- Assumes nothing.
 use Prim.Native.Nat.{ℕ, zero, suc, ◌+◌, ◌*◌, ◌≤◌, ◌<◌}
-use mathlib.Core.Path.{◌≡◌, refl, sym, ap, ap₂, subst, ◌∙◌}
+use mathlib.Core.Path.{◌≡◌, refl, sym, ap, ap₂, ◌∙◌}
 use mathlib.Core.List.{List, [], ◌∷◌, ◌++◌, append_assoc}
 use native.Mathlib.Omega.{arith}
 use native.Mathlib.Nat.{add-zero, zero-add}
 use native.Mathlib.Numerals.{add-one}
 use lib.ListN.{length, length-append, take, get_or, set, length-set, get_or-append}
 use lib.Seq.{get_or-append-add, take-suc-set}
-use borrow.Author.Tests.{eq-eqb, ne_eqb}
 use Rattle.laws.specs.Areas.{up_from}
 use Rattle.laws.proofs.Areas.{length_up}
 use Rattle.circuit.specs.declared.records.BoolNode.{BoolNode}
 use Rattle.circuit.specs.declared.records.Output.{Output}
-use Rattle.circuit.specs.Records.{is_cell_node, node_at, output_at, nodes_of, outputs_of, NodeIs, OutputIs}
-use Rattle.circuit.proofs.Codes.{node_is, output_is}
-use Rattle.listing.specs.Listing.{input_line, cell_line, node_line, node_lines, output_line, output_lines, count_line, order_line, listing, keys_from}
-
--- ---- the line of a record
-
-module _ (t area : List ℕ) (k : ℕ) where
-  pub output_line_of : (o : Output) → OutputIs area (k * 5) o → output_line t o ≡ output_line t (output_at area k)
-  output_line_of o h = ap (output_line t) (output_is area k h)
-
-  module _ (n : BoolNode) (h : NodeIs area (k * 9) n) where
-    pub cell_line_of : n.kind ≡ 2 → cell_line t k n ≡ node_line t k (node_at area k)
-    unfolding node_line is_cell_node
-    cell_line_of e = subst (λ (x : BoolNode). cell_line t k n ≡ node_line t k x) (node_is area k h) (rw (eq-eqb n.kind 2 e))
-
-    pub input_line_of : (n.kind ≡ 2 → ⊥) → input_line t k n ≡ node_line t k (node_at area k)
-    unfolding node_line is_cell_node
-    input_line_of e = subst (λ (x : BoolNode). input_line t k n ≡ node_line t k x) (node_is area k h) (rw (ne_eqb n.kind 2 e))
+use Rattle.circuit.specs.Records.{node_at, output_at, nodes_of, outputs_of}
+use Rattle.listing.specs.Listing.{node_line, node_lines, output_line, output_lines, count_line, order_line, listing, keys_from}
 
 -- ---- which line is which
 

@@ -1,5 +1,5 @@
 // The lines of the listing, each put at the end of what is written.
-ghost use Rattle.std.specs.Prelude.{◌≡◌, [], ◌++◌, ◌+◌, ◌*◌, ◌/◌, ◌≤◌, length, get_or};
+ghost use Rattle.std.specs.Prelude.{◌≡◌, [], ◌++◌, ◌+◌, ◌/◌, ◌<◌, ◌≤◌, ◌*◌, length, get_or};
 ghost use Rattle.arrayvec.specs.ArrayVec.{array_vec_len};
 ghost use Rattle.circuit.specs.Records.{node_at, output_at, nodes_of, outputs_of};
 ghost use Rattle.listing.specs.Listing.{node_head, input_line, cell_line, node_line, output_line, count_line, order_line, refused_line, listing};
@@ -7,7 +7,8 @@ ghost use Rattle.listing.specs.Lines.{Room};
 
 use crate::pieces::{put_bytes, put_name, put_number, put_numbers, put_wire_word, put_wires};
 use arrayvec::ArrayVec;
-use circuit::records::{BoolNode, Name, node_at, output_at};
+use circuit::nodes::{Nodes, Outputs};
+use circuit::records::{BoolNode, Name};
 
 // `refused N`.
 #[tactic(auto, unfolding(crate::specs::Listing::refused_line))]
@@ -74,11 +75,12 @@ pub fn put_cell<const N: usize>(line: &mut ArrayVec<u8, N>, text: &[u8], i: usiz
 }
 
 // The line of node i.
-pub fn put_node<const N: usize>(line: &mut ArrayVec<u8, N>, text: &[u8], nodes: &[usize], i: usize)
-    requires { (i * 9 + 9 ≤ length nodes.now) × (array_vec_len line.old + (length text.now + 128) ≤ N) }
-    ensures { line.new.items ≡ line.old.items ++ node_line text.now i (node_at nodes.now i) }
+#[tactic(auto, unfolding(crate::specs::Listing::node_line, circuit::specs::Records::is_cell_node))]
+pub fn put_node<const N: usize>(line: &mut ArrayVec<u8, N>, text: &[u8], nodes: Nodes, i: usize)
+    requires { (i < nodes.count) × (array_vec_len line.old + (length text.now + 128) ≤ N) }
+    ensures { line.new.items ≡ line.old.items ++ node_line text.now i (node_at nodes.entry.words.now i) }
 {
-    let n = node_at(nodes, i);
+    let n = nodes.at(i);
     if n.kind == 2 {
         put_cell(line, text, i, n);
     } else {
@@ -91,13 +93,13 @@ pub fn put_node<const N: usize>(line: &mut ArrayVec<u8, N>, text: &[u8], nodes: 
 pub fn put_output<const N: usize>(
     line: &mut ArrayVec<u8, N>,
     text: &[u8],
-    outputs: &[usize],
+    outputs: Outputs,
     j: usize,
 )
-    requires { (j * 5 + 5 ≤ length outputs.now) × (array_vec_len line.old + (length text.now + 128) ≤ N) }
-    ensures { line.new.items ≡ line.old.items ++ output_line text.now (output_at outputs.now j) }
+    requires { (j < outputs.count) × (array_vec_len line.old + (length text.now + 128) ≤ N) }
+    ensures { line.new.items ≡ line.old.items ++ output_line text.now (output_at outputs.entry.words.now j) }
 {
-    let o = output_at(outputs, j);
+    let o = outputs.at(j);
     put_bytes(line, b"O ");
     put_name(line, text, b"", o.name);
     put_wire_word(line, o.wire);
@@ -128,15 +130,15 @@ pub fn listing_line<const N: usize>(
     ensures { line.new.items ≡ get_or (listing text.now (nodes_of nodes.now (length nodes.now / 9)) (outputs_of outputs.now (length outputs.now / 5)) order.now) k [] }
 {
     line.clear();
-    let m = nodes.len() / 9;
-    let n = outputs.len() / 5;
+    let nodes = Nodes::of(nodes);
+    let outputs = Outputs::of(outputs);
     if k == 0 {
-        put_count(line, m);
-    } else if k <= m {
+        put_count(line, nodes.count);
+    } else if k <= nodes.count {
         put_node(line, text, nodes, k - 1);
-    } else if k <= m + n {
-        put_output(line, text, outputs, k - 1 - m);
-    } else if k == m + n + 1 {
+    } else if k <= nodes.count + outputs.count {
+        put_output(line, text, outputs, k - 1 - nodes.count);
+    } else if k == nodes.count + outputs.count + 1 {
         put_order(line, order);
     }
 }

@@ -2,9 +2,10 @@
 -- Assumes nothing.
 use Rattle.std.specs.Prelude.{None, Option, Some}
 use Rattle.std.proofs.Common.{◌≡◌, ℕ, zero, suc, ◌+◌, ◌-◌, ◌*◌, ◌%◌, ◌<◌, ◌≤◌, Bool, true, false, cond, List, get_or, sym, refl, ap, ◌∙◌, arith}
+use Rattle.std.proofs.lemmas.Bool.{false_from_ne_true}
 use Rattle.laws.specs.Stretches.{stretch, same_bytes}
 use Rattle.laws.proofs.Stretches.{same_eq}
-use Rattle.laws.proofs.Tests.{clash, false_of}
+use Rattle.laws.proofs.Tests.{clash}
 use Rattle.names.specs.Names.{name_of, lookup}
 use Rattle.names.specs.Chains.{bucket_of, trail_of, rest_of, digit_of, digit_at, prefix_of, start_in, len_in, entry, entries, link_at, bucket_at, trail_at, agrees, first, first_after, reached, Table, Behind}
 use Rattle.names.proofs.Trails.{agrees_makes, reached_at, reached_in, reached-before}
@@ -48,7 +49,7 @@ module _ (text names : List ℕ) (w : List ℕ) where
       go true e h = refl
       go false e h =
           let q : suc k + n ≡ k + suc n = omega arith in
-          sym (other k (false_of _ (λ s. clash (covers d k s) e)))
+          sym (other k (false_from_ne_true _ (λ s. clash (covers d k s) e)))
           ∙ h
           ∙ ap (λ (m : ℕ). lookup text w (entries names (looked m (first (agrees text names (bucket_of w) (trail_of w) d) (suc k) n)))) q
 

@@ -8,3 +8,4 @@ pub mod Links
 pub mod Defined
 pub mod Orders
 pub mod Examples
+pub mod Lookups

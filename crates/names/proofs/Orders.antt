@@ -7,7 +7,7 @@ use lib.ListN.{length-replicate, get_or-replicate}
 use Rattle.laws.specs.Stretches.{same_bytes}
 use Rattle.laws.proofs.Stretches.{same_eq}
 use Rattle.names.specs.Names.{Entry, name_of, lookup}
-use Rattle.names.specs.Chains.{entries, agrees, first, first_after, reached, Table}
+use Rattle.names.specs.Chains.{agrees, first, first_after, reached, Table}
 use Rattle.names.proofs.First.{after_last}
 
 none-reached : (text names : List ℕ) (b h d : ℕ) → reached text names 0 b h d ≡ 0
@@ -26,10 +26,6 @@ empty_table text names h =
       head = λ b g l. get_or-replicate 256 b 0 0 l ∙ sym (none-reached text names b g 0);
       link = λ b g d k e. absurd (omega (arith, none-reached text names b g d));
     }
-
-pub no_entries : (names : List ℕ) → entries names 0 ≡ []
-unfolding entries
-no_entries names = refl
 
 abbrev pub Distinct : List ℕ → List Entry → Type 0
 Distinct text [] = Unit {0}

@@ -1,7 +1,7 @@
 -- Laws of the records that a search comes to.
 -- Assumes nothing.
 use Rattle.std.proofs.Common.{◌≡◌, ℕ, zero, suc, ◌+◌, ◌<◌, ◌≤◌, true, cond, eqb, List, sym, refl, ap, ◌∙◌, arith, eq-eqb, eqb-true}
-use Rattle.laws.proofs.Tests.{and-true, and_makes}
+use Rattle.std.proofs.lemmas.Bool.{and_from, and_parts}
 use Rattle.names.specs.Chains.{rest_of, digit_at, prefix_of, bucket_at, trail_at, agrees, first_after, reached}
 use Rattle.names.proofs.First.{first_at, first_same, first_more_all, new_is, or_else, after_kept, after_new, after_last, after_at, after_same}
 
@@ -37,12 +37,12 @@ module _ (text names : List ℕ) where
   pub agrees_means : (b h d k : ℕ) → agrees text names b h d k ≡ true → (bucket_at text names k ≡ b) × (prefix_of (trail_at text names k) d ≡ prefix_of h d)
   unfolding agrees
   agrees_means b h d k e =
-      let both = and-true (eqb (bucket_at text names k) b) (eqb (prefix_of (trail_at text names k) d) (prefix_of h d)) e in
+      let both = and_parts (eqb (bucket_at text names k) b) (eqb (prefix_of (trail_at text names k) d) (prefix_of h d)) e in
       (eqb-true _ _ both.0, eqb-true _ _ both.1)
 
   pub agrees_makes : (b h d k : ℕ) → bucket_at text names k ≡ b → prefix_of (trail_at text names k) d ≡ prefix_of h d → agrees text names b h d k ≡ true
   unfolding agrees
-  agrees_makes b h d k p q = and_makes _ _ (eq-eqb _ _ p) (eq-eqb _ _ q)
+  agrees_makes b h d k p q = and_from _ _ (eq-eqb _ _ p) (eq-eqb _ _ q)
 
   agrees_same : (b g h d k : ℕ) → prefix_of g d ≡ prefix_of h d → agrees text names b g d k ≡ agrees text names b h d k
   unfolding agrees

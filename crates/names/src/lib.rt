@@ -1,5 +1,5 @@
 // The table of names: 256 chain heads, and records of four words in a lent area: a name and its trail, its wire, and six links.
-// Words of a lent area, with no heap: the C interface fixes them.
+// There is no heap, so the records are words of a lent area.
 
 #![tactic(auto)]
 
@@ -56,7 +56,7 @@ pub fn has_name(text: &[u8], word: Word, key: usize, packed: usize) -> bool
 }
 
 // How far a search has come: the record at hand, and the rest of the trail.
-// A record goes by the number that links to it, one more than its own, and none by 0: so the lent words hold it, whose form the C interface fixes.
+// A record goes by the number that links to it, one more than its own, and none by 0: a link is 21 bits of a lent word, which has no room for an `Option`.
 #[derive(Clone, Copy)]
 pub struct Walk {
     pub at: usize,

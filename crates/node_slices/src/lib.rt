@@ -6,7 +6,8 @@ ghost use Rattle.std.specs.Prelude.{◌≡◌, length};
 ghost use Rattle.circuit.specs.Check.{check_nodes};
 ghost use Rattle.node_slices.specs.Slices.{slice_fault};
 
-use circuit::check::{check_node, some_output_outside};
+use circuit::check::{check_node, output_outside};
+use circuit::nodes::Outputs;
 use circuit::records::BoolNode;
 use circuit::refusals::Refusal;
 
@@ -14,8 +15,8 @@ use circuit::refusals::Refusal;
 pub fn check_node_slice(nodes: &[BoolNode]) -> Result<(), Refusal>
     ensures { result ≡ check_nodes (length nodes.now) 0 nodes.now }
 {
-    for i in 0..nodes.len() {
-        check_node(nodes[i], nodes.len(), i)?;
+    for (i, &n) in nodes.iter().enumerate() {
+        check_node(n, nodes.len(), i)?;
     }
     Ok(())
 }
@@ -28,7 +29,7 @@ pub fn check_circuit_slice(nodes: &[BoolNode], outputs: &[usize]) -> Result<(), 
         return Err(Refusal::Broken);
     }
     check_node_slice(nodes)?;
-    if some_output_outside(outputs, outputs.len() / 5, nodes.len()) {
+    if output_outside(Outputs::of(outputs), nodes.len()) {
         return Err(Refusal::Broken);
     }
     Ok(())

@@ -17,14 +17,7 @@ fn check_array(nodes: [BoolNode; 5], outputs: &[usize]) -> Result<(), Refusal>
 }
 
 fn input(k: usize) -> BoolNode {
-    BoolNode {
-        kind: 1,
-        count: 0,
-        table: 0,
-        name: Name::Number(WireNumber(k)),
-        first: BoolWire::Const(false),
-        second: BoolWire::Const(false),
-    }
+    BoolNode::input(Name::Number(WireNumber(k)))
 }
 
 fn cell(k: usize, count: usize, table: usize, a: usize, b: usize) -> BoolNode {

@@ -1,5 +1,9 @@
+pub mod States
+pub mod Made
 pub mod Steps
 pub mod Storing
 pub mod Resolving
 pub mod Outer
 pub mod Sound
+pub mod Ended
+pub mod Cases

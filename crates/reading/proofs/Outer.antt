@@ -3,7 +3,7 @@
 use Rattle.std.specs.Prelude.{Err, Ok}
 use Prim.Native.Nat.{ℕ, ◌-◌, ◌*◌, ◌<◌}
 use mathlib.Core.Path.{◌≡◌, sym, ap, ap₂, ◌∙◌}
-use mathlib.Core.Bool.{not}
+use mathlib.Core.Bool.{Bool, not}
 use mathlib.Core.List.{List, ◌++◌}
 use native.Mathlib.Nat.{sub-zero}
 use native.Mathlib.Omega.{arith}
@@ -16,7 +16,7 @@ use Rattle.laws.proofs.Areas.{length-encodes, length_up}
 use Rattle.circuit.specs.declared.refusals.Refusal.{Refusal}
 use Rattle.circuit.specs.declared.refusals.Refusal.TheVariants.{TextTooLong, NotAscii, NoRoom}
 use Rattle.circuit.specs.declared.records.Sizes.{Sizes}
-use Rattle.circuit.specs.Refusals.{refuse_if, Try}
+use Rattle.circuit.specs.Refusals.{refuse_if, Try, and_then}
 use Rattle.circuit.specs.Records.{encode_node, nodes_of, encode_output, outputs_of, output_at}
 use Rattle.circuit.specs.Circuits.{Circuit, read_answer}
 use Rattle.circuit.proofs.Codes.{node_wide, output_wide, length_nodes}
@@ -24,8 +24,8 @@ use Rattle.circuit.proofs.Checks.{no_fault, not_refused}
 use Rattle.text.specs.Bytes.{is_ascii}
 use Rattle.text.specs.Joining.{joined_text, Joins}
 use Rattle.names.proofs.Orders.{empty_table}
-use Rattle.reading.specs.Reading.{Places, places_in, bytes_fault, text_fault}
-use Rattle.reading.specs.Holding.{Kept, WordsKept, circuit_of, Ends}
+use Rattle.reading.specs.Reading.{Places, State, places_in, bytes_fault, text_fault, resolve, closed, finish}
+use Rattle.reading.specs.Holding.{Kept, circuit_of, Ends}
 use Rattle.reading.specs.Areas.{read_text, Leaves, Zeroed, JoinedIn}
 
 -- ---- the areas made ready
@@ -58,9 +58,6 @@ start-kept t ns ms n l e = record {
   table = empty_table t ms l;
   nodes = record { room = omega arith; clean = e ∙ zeros_less n ∙ ap (λ (k : ℕ). replicate (k - 0) 0) (sym (length-replicate n 0) ∙ sym (ap length e)) };
 }
-
-pub start-words : (t os : List ℕ) (n : ℕ) → os ≡ replicate n 0 → WordsKept t os 0
-start-words t os n e = record { room = omega arith; clean = e ∙ zeros_less n ∙ ap (λ (k : ℕ). replicate (k - 0) 0) (sym (length-replicate n 0) ∙ sym (ap length e)); inside = tt }
 
 -- ---- what a text gives
 
@@ -102,3 +99,12 @@ module _ (text : List ℕ) (used : ℕ) (c : Try Circuit) (J N O : List ℕ) (m 
         names_is = z;
         outputs_is = rw is (ends.outputs_kept.clean ∙ ap (λ (k : ℕ). encodes encode_output x.outputs ++ replicate (length O - k) 0) (sym (length-encodes encode_output 5 output_wide x.outputs ∙ ap (λ (k : ℕ). k * 5) lo)));
       }
+
+-- what the lines of a format add up to decides its circuit
+module _ (constants : Bool) (t : List ℕ) (c : Try Circuit) (r : Try State) (by : c ≡ and_then r (finish constants t)) where
+  pub ended_refused : (e : Refusal) → Err e ≡ r → Err e ≡ c
+  ended_refused e h = sym (rw (← h) at by)
+
+  pub ended_sound : (s : State) → Ok s ≡ r → and_then (resolve constants t s.held.names s.outputs) (closed s.held.nodes) ≡ c
+  unfolding finish
+  ended_sound s h = sym (rw (← h) at by)

@@ -1,29 +1,30 @@
 -- What has been read so far is sound: each node keeps the rules at its place, and each name's wire is there. At the end the circuit check accepts.
 -- Assumes nothing.
-use Rattle.std.specs.Prelude.{Err, None, Ok, Option, Some}
+use Rattle.std.specs.Prelude.{Ok, Some}
 use Prim.Native.Nat.{ℕ, ◌+◌, ◌≤◌, ◌<◌}
-use mathlib.Core.Path.{◌≡◌, refl, sym, ap, ◌∙◌, subst}
+use mathlib.Core.Path.{◌≡◌, refl, sym, subst}
 use mathlib.Core.Bool.{Bool, true, false, cond, ◌&&◌}
 use mathlib.Core.List.{List, [], ◌∷◌, ◌++◌, map}
 use native.Mathlib.Nat.{zero-add}
 use native.Mathlib.Omega.{arith}
-use lib.Dec.{ltb}
 use lib.ListN.{length, length-append}
 use Rattle.laws.specs.Stretches.{same_bytes, All}
 use Rattle.laws.proofs.Stretches.{all_map}
-use Rattle.circuit.specs.declared.refusals.Refusal.TheVariants.{NoRoom}
 use Rattle.circuit.specs.declared.records.BoolWire.{BoolWire}
 use Rattle.circuit.specs.declared.records.BoolNode.{BoolNode}
 use Rattle.circuit.specs.declared.records.Output.{Output}
-use Rattle.circuit.specs.Refusals.{Try, and_then}
+use Rattle.circuit.specs.Refusals.{Try}
 use Rattle.circuit.specs.Check.{some_not_below, check_circuit}
 use Rattle.circuit.specs.Circuits.{Circuit}
-use Rattle.circuit.proofs.Tries.{no_yes, yes_same, then_yes, need-yes}
+use Rattle.circuit.proofs.Tries.{yes_same, then_yes}
 use Rattle.circuit.proofs.Sitting.{Sits, AllSit, sit_more, circuit_checked, word_below, input_sits}
 use Rattle.text.specs.Words.{bytes_of}
 use Rattle.text.specs.declared.words.Word.{Word}
 use Rattle.names.specs.Names.{Entry, name_of, lookup}
-use Rattle.reading.specs.Reading.{Places, Held, State, find, unless_defined, driver, add_name, with_names, add_node, add_alias, add_named, input_node, add_input, each, Out, output_of, resolve, closed, finish}
+use Rattle.reading.specs.Reading.{Places, Held, State, find, driver, add_node, add_alias, add_named, input_node, add_input, each, Out, output_of, resolve, finish}
+use Rattle.reading.proofs.Made.{node_made, alias_made, named_made, driver_found}
+use Rattle.reading.proofs.Ended.{finish_yes}
+use Rattle.reading.proofs.States.{undefined_yes}
 
 -- each entry's wire is a constant or a node below m
 abbrev pub Wired : ℕ → List Entry → Type 0
@@ -41,7 +42,7 @@ wired_more m k h es w = all_map es (λ e p. omega (arith, h, p)) w
 
 -- ---- names
 
-lookup_below : (m : ℕ) (t bytes : List ℕ) (es : List Entry) (x : ℕ) → Wired m es → lookup t bytes es ≡ Some x → x < m + 2
+pub lookup_below : (m : ℕ) (t bytes : List ℕ) (es : List Entry) (x : ℕ) → Wired m es → lookup t bytes es ≡ Some x → x < m + 2
 unfolding lookup
 lookup_below m t bytes [] x w q = let z : ◌≡◌ {A = ℕ} 0 1 = cc in absurd (omega arith)
 lookup_below m t bytes (e ∷ es) x w q = go (same_bytes (name_of t e) bytes) q (lookup_below m t bytes es x w.1)
@@ -60,58 +61,33 @@ find_below m b t w es x h q = go (b && same_bytes (bytes_of t w) _) (b && same_b
     go false false r = lookup_below m t (bytes_of t w) es x h r
 
 pub driver_below : (m : ℕ) (b : Bool) (t : List ℕ) (w : Word) (es : List Entry) (x : ℕ) → Wired m es → driver (find b t w es) ≡ Ok x → x < m + 2
-driver_below m b t w es x h q = go (find b t w es) refl q
-  where
-    go : (f : Option ℕ) → find b t w es ≡ f → driver f ≡ Ok x → x < m + 2
-    go (Some y) e r = find_below m b t w es x h (e ∙ ap Some (yes_same r))
-    go None e r = absurd (no_yes r)
+driver_below m b t w es x h q = find_below m b t w es x h (driver_found (find b t w es) x q)
 
 -- ---- records
 
-pub name_wired : (m room : ℕ) (w : Word) (wire : ℕ) (es es' : List Entry) → wire < m + 2 → Wired m es → add_name room w wire es ≡ Ok es' → Wired m es'
-unfolding add_name
-name_wired m room w wire es es' h ws q = subst (Wired m) (yes_same (need-yes (ltb (length es) room) NoRoom _ es' q).1) (h, ws)
-
-with_inv : (ns : List BoolNode) (r : Try (List Entry)) (h : Held) → with_names ns r ≡ Ok h → (r ≡ Ok h.names) × (h.nodes ≡ ns)
-with_inv ns (Err e) h q = absurd (no_yes q)
-with_inv ns (Ok es) h q = let s = yes_same q in (ap (λ (x : Held). Ok x.names) s, sym (ap (λ (x : Held). x.nodes) s))
-
 pub alias_sound : (p : Places) (w : Word) (wire : ℕ) (h h' : Held) → wire < length h.nodes + 2 → HeldSound h → add_alias p w wire h ≡ Ok h' → HeldSound h'
-unfolding add_alias
-alias_sound p w wire h h' k s q =
-    let i = with_inv h.nodes (add_name p.names w wire h.names) h' q in
-    record {
-      nodes = rw i.1 s.nodes;
-      names = rw i.1 (name_wired (length h.nodes) p.names w wire h.names h'.names k s.names i.0);
-    }
+alias_sound p w wire h h' k s q = subst HeldSound (alias_made p w wire h h' q) (record { nodes = s.nodes; names = (k, s.names) })
 
 -- a node at the end of the others
+sits_last : (ns : List BoolNode) (n : BoolNode) → AllSit 0 ns → Sits (length ns) n → AllSit 0 (ns ++ n ∷ [])
+sits_last ns n a s = sit_more 0 ns n a (subst (λ (k : ℕ). Sits k n) (sym (zero-add (length ns))) s)
+
 pub node_sits : (room : ℕ) (n : BoolNode) (ns ns' : List BoolNode) → AllSit 0 ns → Sits (length ns) n → add_node room n ns ≡ Ok ns' → AllSit 0 ns' × (length ns' ≡ length ns + 1)
-unfolding add_node
-node_sits room n ns ns' a s q =
-    let e : ns ++ (n ∷ []) ≡ ns' = yes_same (need-yes (ltb (length ns) room) NoRoom _ ns' q).1 in
-    rw (← e) (sit_more 0 ns n a (subst (λ (k : ℕ). Sits k n) (sym (zero-add (length ns))) s), length-append ns (n ∷ []))
+node_sits room n ns ns' a s q = rw (← node_made room n ns ns' q) (sits_last ns n a s, length-append ns (n ∷ []))
 
 pub named-sound : (p : Places) (w : Word) (n : BoolNode) (h h' : Held) → Sits (length h.nodes) n → HeldSound h → add_named p w n h ≡ Ok h' → HeldSound h'
-unfolding add_named
 named-sound p w n h h' s k q =
-    let a = then_yes (add_node p.nodes n h.nodes) _ h' q in
-    let sits = node_sits p.nodes n h.nodes a.0 k.nodes s a.1 in
-    let i = with_inv a.0 (add_name p.names w (length h.nodes + 2) h.names) h' a.2 in
-    record {
-      nodes = rw i.1 sits.0;
-      names = rw i.1
-          (name_wired (length a.0) p.names w (length h.nodes + 2) h.names h'.names (omega (arith, sits.1)) (wired_more (length h.nodes) (length a.0) (omega (arith, sits.1)) h.names k.names) i.0);
-    }
-
-undefined_inv : {A : Type 0} (f : Option ℕ) (k : Try A) (a : A) → unless_defined f k ≡ Ok a → k ≡ Ok a
-undefined_inv (Some x) k a q = absurd (no_yes q)
-undefined_inv None k a q = q
+    let l : length (h.nodes ++ n ∷ []) ≡ length h.nodes + 1 = length-append h.nodes (n ∷ []) in
+    subst HeldSound (named_made p w n h h' q)
+    (record {
+      nodes = sits_last h.nodes n k.nodes s;
+      names = (omega (arith, l), wired_more (length h.nodes) (length (h.nodes ++ n ∷ [])) (omega (arith, l)) h.names k.names);
+    })
 
 pub input_sound : (b : Bool) (t : List ℕ) (p : Places) (w : Word) (h h' : Held) → HeldSound h → add_input b t p w h ≡ Ok h' → HeldSound h'
 unfolding add_input
 input_sound b t p w h h' s q =
-    named-sound p w (input_node w) h h' (input_sits (length h.nodes) (input_node w) refl) s (undefined_inv (find b t w h.names) _ h' q)
+    named-sound p w (input_node w) h h' (input_sits (length h.nodes) (input_node w) refl) s (undefined_yes (find b t w h.names) _ h' q).1
 
 -- one word after the other keeps what each keeps
 pub each_keeps : {A B : Type 0} (P : A → Type 0) (f : B → A → Try A) → ((w : B) (a b : A) → P a → f w a ≡ Ok b → P b) → (ws : List B) (a b : A) → P a → each f ws a ≡ Ok b → P b
@@ -138,12 +114,7 @@ abbrev pub wires_out : Circuit → List BoolWire
 wires_out c = map (λ (o : Output). o.wire) c.outputs
 
 pub finish-sound : (b : Bool) (t : List ℕ) (s : State) (c : Circuit) → HeldSound s.held → finish b t s ≡ Ok c → check_circuit c.nodes (wires_out c) ≡ Ok tt
-unfolding finish closed
-finish-sound b t s c h q = go (resolve b t s.held.names s.outputs) refl q
-  where
-    go : (r : Try (List Out)) → resolve b t s.held.names s.outputs ≡ r → and_then r (closed s.held.nodes) ≡ Ok c → check_circuit c.nodes (wires_out c) ≡ Ok tt
-    go (Err e) p z = absurd (no_yes z)
-    go (Ok []) p z = absurd (no_yes z)
-    go (Ok (o ∷ os)) p z =
-        rw (← yes_same z)
-        (circuit_checked s.held.nodes (map (λ (x : Output). x.wire) (map output_of (o ∷ os))) h.nodes (resolve_below (length s.held.nodes) b t s.held.names s.outputs (o ∷ os) h.names p))
+finish-sound b t s c h q =
+    let e = finish_yes b t s c q in
+    subst (λ (x : Circuit). check_circuit x.nodes (wires_out x) ≡ Ok tt) e.2
+    (circuit_checked s.held.nodes (map (λ (o : Output). o.wire) (map output_of e.0)) h.nodes (resolve_below (length s.held.nodes) b t s.held.names s.outputs e.0 h.names e.1))

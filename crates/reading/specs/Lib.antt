@@ -1,3 +1,4 @@
 pub mod Reading
+pub mod States
 pub mod Holding
 pub mod Areas

@@ -1,29 +1,80 @@
 // What the readers of joined texts do alike: the text is joined, its lines are read into areas of zeros, and a refusal leaves zeros.
-ghost use Rattle.std.specs.Prelude.{◌≡◌, ℕ, ◌<◌, List, length, replicate};
-ghost use Rattle.circuit.specs.Refusals.{Try};
+ghost use Rattle.std.specs.Prelude.{◌≡◌, ℕ, ◌+◌, ◌≤◌, ◌<◌, Bool, List, length, replicate, IfOk};
+ghost use Rattle.circuit.specs.Refusals.{Try, and_then};
 ghost use Rattle.circuit.specs.Circuits.{Circuit};
-ghost use Rattle.reading.specs.Reading.{Places, places_in};
-ghost use Rattle.reading.specs.Holding.{Ends};
+ghost use Rattle.names.specs.Chains.{entries};
+ghost use Rattle.reading.specs.Reading.{Places, State, places_in, find, finish};
+ghost use Rattle.reading.specs.Holding.{outcome, state_of, Kept, WordsKept, Ends};
 ghost use Rattle.reading.specs.Areas.{read_text, Leaves};
 
 use crate::areas::{conclude, prepare, refuse};
+use crate::outputs::resolve_outputs;
+use crate::records::Reading;
 use circuit::records::Sizes;
 use circuit::refusals::Refusal;
+use names::NameTable;
+use text::words::Word;
+
+// How a format finds the wire of a name. A trait of its own, since the lines of a format look names up.
+pub trait Names {
+    // Whether `FALSE` and `TRUE` are defined first.
+    ghost constants: { Bool };
+
+    // The wire's word of a name.
+    fn find_wire(table: &NameTable, word: Word) -> Option<usize>
+        requires { word.start + word.len ≤ length table.now.text.now }
+        ensures { result ≡ find constants table.now.text.now word (entries table.now.names.now table.now.count) };
+}
 
 // A format whose lines may be continued, as BLIF and BENCH are.
-pub trait Format {
+pub trait Format: Names {
     // The circuit of a joined text, in areas with so many places.
     ghost lines: { List ℕ → Places → Try Circuit };
 
-    // The joined text into areas of zeros.
-    fn read_joined(
+    // What its lines add to nothing, one after the other.
+    ghost reads: { List ℕ → Places → Try State };
+
+    // Every line, into empty areas.
+    fn read_lines(
         text: &[u8],
+        heads: &mut [usize; 256],
         nodes: &mut [usize],
         names: &mut [usize],
         outputs: &mut [usize],
-    ) -> Result<Sizes, Refusal>
-        requires { (nodes.old ≡ replicate (length nodes.old) 0) × (outputs.old ≡ replicate (length outputs.old) 0) × (length text.now < 2097152) }
-        ensures { Ends (lines text.now (places_in (length nodes.old) (length names.old) (length outputs.old))) result nodes.new outputs.new };
+    ) -> Result<Reading, Refusal>
+        requires kept { Kept text.now heads.old nodes.old names.old (record { nodes = 0; names = 0 }) }
+        requires words_kept { WordsKept text.now outputs.old 0 }
+        ensures kept_2 { IfOk result (λ r. Kept text.now heads.new nodes.new names.new r.counts) }
+        ensures words_kept_2 { IfOk result (λ r. WordsKept text.now outputs.new r.outputs) }
+        ensures outputs_after { outcome (λ r. state_of nodes.new names.new outputs.new r.counts r.outputs) result ≡ reads text.now (places_in (length nodes.old) (length names.old) (length outputs.old)) };
+
+    // The circuit is what the lines give, once the outputs have their wires.
+    ghost ends: { (t : List ℕ) (p : Places) → lines t p ≡ and_then (reads t p) (finish Self.Names.constants t) };
+}
+
+// The joined text into areas of zeros: its lines, then the wires of the outputs.
+pub fn read_joined<F: Format>(
+    text: &[u8],
+    nodes: &mut [usize],
+    names: &mut [usize],
+    outputs: &mut [usize],
+) -> Result<Sizes, Refusal>
+    requires zeros { (nodes.old ≡ replicate (length nodes.old) 0) × (outputs.old ≡ replicate (length outputs.old) 0) × (length text.now < 2097152) }
+    ensures { Ends (F.lines text.now (places_in (length nodes.old) (length names.old) (length outputs.old))) result nodes.new outputs.new }
+{
+    let mut heads = [0; 256];
+    let read = F::read_lines(text, &mut heads, nodes, names, outputs)?;
+    let table = NameTable {
+        text,
+        heads: &heads,
+        names,
+        count: read.counts.names,
+    };
+    resolve_outputs::<F>(&table, outputs, read.outputs)?;
+    Ok(Sizes {
+        nodes: read.counts.nodes,
+        outputs: read.outputs,
+    })
 }
 
 // A text of a format into a circuit, whatever the areas hold.
@@ -39,7 +90,7 @@ pub fn parse<F: Format>(
     match prepare(text, joined, nodes, outputs) {
         Err(e) => refuse(e, joined, nodes, names, outputs),
         Ok(used) => {
-            let ended = F::read_joined(&joined[..used], nodes, names, outputs);
+            let ended = read_joined::<F>(&joined[..used], nodes, names, outputs);
             conclude(ended, joined, nodes, names, outputs)
         }
     }

@@ -5,7 +5,7 @@ ghost use Rattle.names.specs.Chains.{entries};
 ghost use Rattle.reading.specs.Reading.{find, add_output};
 ghost use Rattle.reading.specs.Holding.{outcome, output_word, words_of, WordsKept, put_wire, Resolved};
 
-use crate::records::find_wire;
+use crate::format::Names;
 use circuit::areas::{put, records_in};
 use circuit::refusals::Refusal;
 use names::NameTable;
@@ -32,14 +32,9 @@ pub fn add_output(
 }
 
 // The wire of output j, stored where it is found.
-pub fn resolve_at(
-    table: &NameTable,
-    constants: bool,
-    outputs: &mut [usize],
-    j: usize,
-) -> Option<usize>
+pub fn resolve_at<F: Names>(table: &NameTable, outputs: &mut [usize], j: usize) -> Option<usize>
     requires j_in_bounds { (j * 5 + 5 ≤ length outputs.old) × ((output_word outputs.old j).start + (output_word outputs.old j).len ≤ length table.now.text.now) }
-    ensures value { result ≡ find constants table.now.text.now (output_word outputs.old j) (entries table.now.names.now table.now.count) }
+    ensures value { result ≡ find F.constants table.now.text.now (output_word outputs.old j) (entries table.now.names.now table.now.count) }
     ensures outputs_after { outputs.new ≡ put_wire outputs.old j result }
 {
     let base = j * 5;
@@ -47,23 +42,22 @@ pub fn resolve_at(
         start: outputs[base + 1],
         len: outputs[base + 2],
     };
-    let wire = find_wire(table, word, constants)?;
+    let wire = F::find_wire(table, word)?;
     put(outputs, base, &[1, word.start, word.len, 0, wire]);
     Some(wire)
 }
 
 // The wire of each output: 5, then 10.
-pub fn resolve_outputs(
+pub fn resolve_outputs<F: Names>(
     table: &NameTable,
-    constants: bool,
     outputs: &mut [usize],
     n: usize,
 ) -> Result<(), Refusal>
     requires words_kept { WordsKept table.now.text.now outputs.old n }
-    ensures { Resolved constants table.now.text.now (entries table.now.names.now table.now.count) (words_of outputs.old n) result outputs.new n }
+    ensures { Resolved F.constants table.now.text.now (entries table.now.names.now table.now.count) (words_of outputs.old n) result outputs.new n }
 {
     for j in 0..n {
-        resolve_at(table, constants, outputs, j).ok_or(Refusal::NoDriver)?;
+        resolve_at::<F>(table, outputs, j).ok_or(Refusal::NoDriver)?;
     }
     if n == 0 {
         return Err(Refusal::NoOutputs);

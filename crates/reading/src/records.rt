@@ -2,15 +2,16 @@
 ghost use Rattle.std.specs.Prelude.{◌≡◌, ◌+◌, ◌≤◌, ◌<◌, ◌^◌, length, IfOk, OnErr};
 ghost use Rattle.laws.specs.Areas.{capacity};
 ghost use Rattle.circuit.specs.Records.{wire_word, nodes_of};
+ghost use Rattle.circuit.specs.declared.records.Name.TheVariants.{Stretch};
 ghost use Rattle.names.specs.Chains.{entries, Table};
-ghost use Rattle.reading.specs.Reading.{find, places_in, add_name, add_node, add_named, input_node, add_input};
+ghost use Rattle.reading.specs.Reading.{places_in, add_name, add_node, add_named, input_node, add_input};
 ghost use Rattle.reading.specs.Holding.{outcome, held_of, NodesKept, Kept, KeptForSome};
 
+use crate::format::Names;
 use circuit::areas::{put_node, records_in};
-use circuit::records::{BoolNode, BoolWire, Name};
+use circuit::records::{BoolNode, Name};
 use circuit::refusals::Refusal;
 use names::NameTable;
-use text::bytes::is_word;
 use text::words::Word;
 
 // How many nodes and names there are.
@@ -20,18 +21,11 @@ pub struct Counts {
     pub names: usize,
 }
 
-// The wire's word of a name; `constants` says whether FALSE and TRUE are defined.
-pub fn find_wire(table: &NameTable, word: Word, constants: bool) -> Option<usize>
-    requires len_in_bounds { word.start + word.len ≤ length table.now.text.now }
-    ensures { result ≡ find constants table.now.text.now word (entries table.now.names.now table.now.count) }
-{
-    if constants && is_word(table.text, word, b"FALSE") {
-        return Some(0);
-    }
-    if constants && is_word(table.text, word, b"TRUE") {
-        return Some(1);
-    }
-    table.find(word)
+// What has been read: how many nodes, names and outputs.
+#[derive(Clone, Copy)]
+pub struct Reading {
+    pub counts: Counts,
+    pub outputs: usize,
 }
 
 // A name for the word of a wire: how many names there are then.
@@ -94,28 +88,27 @@ pub fn add_named(
     Ok(Counts { nodes: n, names: m })
 }
 
+// The name that stands where a word does. A function, since neither type is this crate's, as `From` would need.
+pub fn stretch_name(word: Word) -> Name
+    ensures { result ≡ Stretch word.start word.len }
+{
+    Name::Stretch {
+        start: word.start,
+        len: word.len,
+    }
+}
+
 // The node of a declared input.
 pub fn input_node(word: Word) -> BoolNode
     ensures { result ≡ input_node word }
 {
-    BoolNode {
-        kind: 1,
-        count: 0,
-        table: 0,
-        name: Name::Stretch {
-            start: word.start,
-            len: word.len,
-        },
-        first: BoolWire::Const(false),
-        second: BoolWire::Const(false),
-    }
+    BoolNode::input(stretch_name(word))
 }
 
 // A declared input: 4, 3.
-pub fn add_input(
+pub fn add_input<F: Names>(
     text: &[u8],
     word: Word,
-    constants: bool,
     counts: Counts,
     heads: &mut [usize; 256],
     nodes: &mut [usize],
@@ -125,7 +118,7 @@ pub fn add_input(
     requires len_in_bounds { word.start + word.len ≤ length text.now }
     ensures kept_2 { IfOk result (λ c. Kept text.now heads.new nodes.new names.new c) }
     ensures kept_refused { OnErr result (KeptForSome text.now heads.new nodes.new names.new) }
-    ensures counts_after { outcome (λ c. held_of nodes.new names.new c) result ≡ add_input constants text.now (places_in (length nodes.old) (length names.old) 0) word (held_of nodes.old names.old counts) }
+    ensures counts_after { outcome (λ c. held_of nodes.new names.new c) result ≡ add_input F.constants text.now (places_in (length nodes.old) (length names.old) 0) word (held_of nodes.old names.old counts) }
 {
     let table = NameTable {
         text,
@@ -133,7 +126,7 @@ pub fn add_input(
         names,
         count: counts.names,
     };
-    match find_wire(&table, word, constants) {
+    match F::find_wire(&table, word) {
         Some(_) => Err(Refusal::DefinedBefore),
         None => add_named(text, word, input_node(word), counts, heads, nodes, names),
     }

@@ -7,14 +7,14 @@ use native.Mathlib.Omega.{arith}
 use lib.Dec.{ltb}
 use lib.ListN.{replicate}
 use borrow.Author.Tests.{ltb-true, ltb-false}
-use Rattle.laws.proofs.Areas.{drop-replicate}
+use Rattle.laws.proofs.Filling.{zero_at}
+use Rattle.std.proofs.lemmas.List.{drop-replicate}
 use Rattle.laws.proofs.Digits.{bit-zero}
-use Rattle.laws.proofs.Parts.{zeros_at}
 use Rattle.readyset.specs.Sets.{member, Levels, single, level}
 
 pub empty-none : (len k : ℕ) → member (replicate len 0) k ≡ false
 unfolding member
-empty-none len k = rw (zeros_at len (k / 64)) (bit-zero (k % 64))
+empty-none len k = rw (zero_at len (k / 64)) (bit-zero (k % 64))
 
 pub empty_levels : (len n : ℕ) → Levels (replicate len 0) n
 empty_levels len n = down n n len (omega arith)
@@ -27,4 +27,4 @@ empty_levels len n = down n n len (omega arith)
         go true e rest = single (ltb-true n 64 e)
         go false e rest =
             let big : 64 ≤ n = ltb-false n 64 e in
-            level {area = replicate len 0} big (λ w l. rw (drop-replicate (n / 64 + 1) len 0, zeros_at len w) (empty-none (len - (n / 64 + 1)) w)) (rw (drop-replicate (n / 64 + 1) len 0) (rest (omega arith)))
+            level {area = replicate len 0} big (λ w l. rw (drop-replicate {X = ℕ} (n / 64 + 1) len 0, zero_at len w) (empty-none (len - (n / 64 + 1)) w)) (rw (drop-replicate {X = ℕ} (n / 64 + 1) len 0) (rest (omega arith)))

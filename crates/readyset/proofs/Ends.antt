@@ -13,9 +13,10 @@ use lib.ListN.{get_or, drop}
 use lib.Pow.{pow_pos, shl_exact, high, ones_lt}
 use native.Mathlib.Nat.{pow-suc}
 use borrow.Author.Tests.{eqb-true, eqb-false}
+use Rattle.std.proofs.Math.Bool.{and-true}
+use Rattle.std.proofs.lemmas.Bool.{and_parts, false_from_ne_true}
 use Rattle.laws.specs.Digits.{is_set}
-use Rattle.laws.proofs.Digits.{and_last, bit-zero, bit-suc, bit_below, bit-and}
-use Rattle.laws.proofs.Tests.{and-true, false_of}
+use Rattle.laws.proofs.Digits.{bit-zero, bit-suc, bit_below, bit-and}
 use Rattle.readyset.specs.Sets.{member, Levels, Last}
 use Rattle.readyset.proofs.Levels.{levels_summary, member_at, member-none, zero-none, some-not-zero}
 
@@ -30,7 +31,7 @@ unfolding is_set
 highest x f n =
     let t = leading_top 64 x (omega arith) f in
     let e : 63 - count_leading_zeros 64 x ≡ t.0 = omega (arith, t.1) in
-    rw e (record { small = omega (arith, t.1); at = top t.0 t.2 t.3; above = λ b h. false_of (is_set x b) (λ q. omega (arith, bit_below x (suc t.0) b t.3 q)) })
+    rw e (record { small = omega (arith, t.1); at = top t.0 t.2 t.3; above = λ b h. false_from_ne_true (is_set x b) (λ q. omega (arith, bit_below x (suc t.0) b t.3 q)) })
   where
     top : (j : ℕ) → 2 ^ j ≤ x → x < 2 ^ suc j → is_set x j ≡ true
     top j l h =
@@ -71,10 +72,10 @@ module _ (area : List ℕ) (k : ℕ) where
   bits b = bit-and (get_or area (k / 64) 0) (1 * 2 ^ (k % 64) % 18446744073709551616 - 1) b ∙ ap (λ (m : ℕ). is_set (get_or area (k / 64) 0) b && is_set (m - 1) b) (shl_one (k % 64) (omega arith))
 
   low_bit : (b : ℕ) → b < k % 64 → is_set before b ≡ is_set (get_or area (k / 64) 0) b
-  low_bit b h = bits b ∙ ap (λ (t : Bool). is_set (get_or area (k / 64) 0) b && t) (ones (k % 64) b h) ∙ and_last _
+  low_bit b h = bits b ∙ ap (λ (t : Bool). is_set (get_or area (k / 64) 0) b && t) (ones (k % 64) b h) ∙ and-true _
 
   set-low : (b : ℕ) → is_set before b ≡ true → b < k % 64
-  set-low b h = bit_below (2 ^ (k % 64) - 1) (k % 64) b (ones_lt (k % 64)) (and-true (is_set (get_or area (k / 64) 0) b) (is_set (2 ^ (k % 64) - 1) b) (sym (bits b) ∙ h)).1
+  set-low b h = bit_below (2 ^ (k % 64) - 1) (k % 64) b (ones_lt (k % 64)) (and_parts (is_set (get_or area (k / 64) 0) b) (is_set (2 ^ (k % 64) - 1) b) (sym (bits b) ∙ h)).1
 
   pub last_start : k ≡ 0 → Last (member area) k 0
   last_start z = record { upto = omega arith; none = λ j a b. absurd (omega arith); here = λ x e. absurd (omega arith) }

@@ -13,9 +13,10 @@ use lib.Pow.{shr_le}
 use borrow.Rule.Slice.PartMut.{put_mid, mid_of, same_len_mid}
 use lib.Count.{count_trailing_zeros}
 use borrow.Author.Tests.{eqb-true, eqb-false, eq-eqb, ne_eqb, ltb-true, ltb-false}
+use Rattle.std.proofs.lemmas.List.{take_rest}
 use Rattle.laws.specs.Digits.{is_set, Turned, updated}
 use Rattle.laws.proofs.Digits.{bit-zero, bit_shift, bit_below, Lowest, lowest, on_some, off_some}
-use Rattle.laws.proofs.Parts.{part_rest, put_rest, put_words}
+use Rattle.laws.proofs.Parts.{put_rest, put_words}
 use Rattle.std.specs.Bool.{then_some}
 use Rattle.readyset.specs.Sets.{member, Summary, Levels, single, level, First, FirstIs, Marked}
 
@@ -172,10 +173,10 @@ members_by area after n k v up bits wrote j h = go (eqb (j / 64) (k / 64)) refl
         member_at after j (j / 64) (j % 64) refl refl ∙ ap (λ (x : ℕ). is_set x (j % 64)) (wrote.off (j / 64) (omega arith) u) ∙ sym (member_at area j (j / 64) (j % 64) refl refl) ∙ sym (rw d (keeps up (member area j)))
 
 pub rest_room : (n : ℕ) (l : List ℕ) → 64 ≤ n → n ≤ length l → n / 64 + 1 ≤ length (take (length l - (n / 64 + 1)) (drop (n / 64 + 1) l))
-rest_room n l big h = rw (part_rest (n / 64 + 1) l) (omega (arith, length-drop (n / 64 + 1) l))
+rest_room n l big h = rw (take_rest l (n / 64 + 1)) (omega (arith, length-drop (n / 64 + 1) l))
 
 pub rest_levels : (n : ℕ) (l : List ℕ) → 64 ≤ n → Levels l n → Levels (take (length l - (n / 64 + 1)) (drop (n / 64 + 1) l)) (n / 64 + 1)
-rest_levels n l big t = rw (part_rest (n / 64 + 1) l) (levels_rest big t)
+rest_levels n l big t = rw (take_rest l (n / 64 + 1)) (levels_rest big t)
 
 module _ (area : List ℕ) (n k v : ℕ) (room : n ≤ length area) (below : k < n) (levels : Levels area n) where
   rest_same : drop (n / 64 + 1) (set area (k / 64) v) ≡ drop (n / 64 + 1) area
@@ -189,7 +190,7 @@ module _ (area : List ℕ) (n k v : ℕ) (room : n ≤ length area) (below : k <
     part_room = rest_room n (set area (k / 64) v) big (omega (arith, length-set area (k / 64) v))
 
     pub part_levels : Levels (take (length (set area (k / 64) v) - (n / 64 + 1)) (drop (n / 64 + 1) (set area (k / 64) v))) (n / 64 + 1)
-    part_levels = rw (part_rest (n / 64 + 1) (set area (k / 64) v), rest_same) (levels_rest big levels)
+    part_levels = rw (take_rest (set area (k / 64) v) (n / 64 + 1), rest_same) (levels_rest big levels)
 
 module _ (up : Bool) (area : List ℕ) (n k v : ℕ) (room : n ≤ length area) (below : k < n) (levels : Levels area n) (bits : Turned up (get_or area (k / 64) 0) (k % 64) v) where
   wrote : Wrote area (n / 64 + 1) (k / 64) v (set area (k / 64) v)
@@ -234,7 +235,7 @@ module _ (up : Bool) (area : List ℕ) (n k v : ℕ) (room : n ≤ length area) 
     wrote_after = record { at = words-after (k / 64) (omega arith) ∙ wrote.at; off = λ i h u. words-after i h ∙ wrote.off i h u }
 
     rest_members : (j : ℕ) → j < n / 64 + 1 → member part j ≡ updated up (member (drop (n / 64 + 1) area) j) (eqb j (k / 64))
-    rest_members = rw (part_rest (n / 64 + 1) (set area (k / 64) v), rest_same area n k v room below levels) at by.members
+    rest_members = rw (take_rest (set area (k / 64) v) (n / 64 + 1), rest_same area n k v room below levels) at by.members
 
     summary_after : (w : ℕ) → w < n / 64 + 1 → (t : Bool) → eqb w (k / 64) ≡ t → member part w ≡ not (eqb (get_or after w 0) 0)
     summary_after w h true q =
@@ -247,7 +248,7 @@ module _ (up : Bool) (area : List ℕ) (n k v : ℕ) (room : n ≤ length area) 
     past_after i h =
         let e : n / 64 + 1 + (i - (n / 64 + 1)) ≡ i = omega arith in
         at_rest after i e ∙ ap (λ (l : List ℕ). get_or l (i - (n / 64 + 1)) 0) rest_after ∙ by.beyond (i - (n / 64 + 1)) (omega arith)
-        ∙ ap (λ (l : List ℕ). get_or l (i - (n / 64 + 1)) 0) (part_rest (n / 64 + 1) (set area (k / 64) v) ∙ rest_same area n k v room below levels) ∙ sym (at_rest area i e)
+        ∙ ap (λ (l : List ℕ). get_or l (i - (n / 64 + 1)) 0) (take_rest (set area (k / 64) v) (n / 64 + 1) ∙ rest_same area n k v room below levels) ∙ sym (at_rest area i e)
       where
         at_rest : (l : List ℕ) (i : ℕ) → n / 64 + 1 + (i - (n / 64 + 1)) ≡ i → get_or l i 0 ≡ get_or (drop (n / 64 + 1) l) (i - (n / 64 + 1)) 0
         at_rest l i e = sym (get_or-drop (n / 64 + 1) l (i - (n / 64 + 1)) 0 ∙ ap (λ (j : ℕ). get_or l j 0) e)

@@ -2,6 +2,7 @@
 ghost use Rattle.std.specs.Prelude.{◌≡◌, ◌≤◌, length};
 
 use blif::read::parse_blif;
+use circuit::refusals::Refusal;
 use printing::rooms::room;
 use std::io;
 
@@ -11,8 +12,8 @@ fn spaces() -> [u8; 1048577]
     [32; 1048577]
 }
 
-// The refusal's number of so many spaces as BLIF, 0 if they are accepted.
-fn spaces_number(size: usize) -> usize
+// What so many spaces as BLIF are refused with, if they are.
+fn spaces_refused(size: usize) -> Option<Refusal>
     requires { size ≤ 1048577 }
 {
     let text = spaces();
@@ -20,20 +21,18 @@ fn spaces_number(size: usize) -> usize
     let mut nodes: [usize; 9216] = room();
     let mut names: [usize; 4096] = room();
     let mut outputs: [usize; 5120] = room();
-    match parse_blif(
+    parse_blif(
         &text[..size],
         &mut joined,
         &mut nodes,
         &mut names,
         &mut outputs,
-    ) {
-        Ok(_) => 0,
-        Err(e) => usize::from(e),
-    }
+    )
+    .err()
 }
 
 pub fn print_longest(rt: &impl Print) -> io::Result<()> {
-    let longest = spaces_number(1048576);
-    let longer = spaces_number(1048577);
+    let longest = spaces_refused(1048576).map_or(0, usize::from);
+    let longer = spaces_refused(1048577).map_or(0, usize::from);
     println!(rt; "1048576 spaces: {longest}, one more: {longer}")
 }

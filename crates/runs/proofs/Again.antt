@@ -10,9 +10,10 @@ use lib.Dec.{eqb, ltb}
 use borrow.Author.Tests.{eqb-true, eqb-false, ltb-true, ltb-false}
 use lib.ListN.{length, get_or, take, drop, length-drop}
 use lib.Seq.{get_or-drop}
+use Rattle.std.proofs.lemmas.Bool.{and_parts, false_from_ne_true}
 use Rattle.laws.specs.Lists.{elem}
 use Rattle.laws.proofs.Lists.{elem_snoc_more}
-use Rattle.laws.proofs.Tests.{and-true, clash, false_of}
+use Rattle.laws.proofs.Tests.{clash}
 use Rattle.circuit.specs.Graph.{Vertex, graph_of, waits, ready, fit}
 use Rattle.circuit.specs.Records.{nodes_of}
 use Rattle.circuit.proofs.Codes.{length_nodes}
@@ -62,11 +63,11 @@ module _ (count : ℕ) (order : List ℕ) (from : ℕ) where
 fit-waits : (c : List Vertex) (taken rest : List ℕ) → fit c taken rest ≡ true → (j : ℕ) → j < length rest → waits c taken (get_or rest j 0) ≡ true
 unfolding fit
 fit-waits c taken [] f j h = absurd (omega (arith, h))
-fit-waits c taken (x ∷ xs) f zero h = ready-waits c taken x (and-true (ready c taken x) (fit c (taken ++ x ∷ []) xs) f).0
+fit-waits c taken (x ∷ xs) f zero h = ready-waits c taken x (and_parts (ready c taken x) (fit c (taken ++ x ∷ []) xs) f).0
 fit-waits c taken (x ∷ xs) f (suc j) h =
-    let w = fit-waits c (taken ++ x ∷ []) xs (and-true (ready c taken x) (fit c (taken ++ x ∷ []) xs) f).1 j (omega (arith, h)) in
+    let w = fit-waits c (taken ++ x ∷ []) xs (and_parts (ready c taken x) (fit c (taken ++ x ∷ []) xs) f).1 j (omega (arith, h)) in
     waits_makes c taken (get_or xs j 0) (waits-cell c (taken ++ x ∷ []) (get_or xs j 0) w)
-    (false_of (elem (get_or xs j 0) taken) (λ e. clash (elem_snoc_more (get_or xs j 0) x taken e) (waits_fresh c (taken ++ x ∷ []) (get_or xs j 0) w)))
+    (false_from_ne_true (elem (get_or xs j 0) taken) (λ e. clash (elem_snoc_more (get_or xs j 0) x taken e) (waits_fresh c (taken ++ x ∷ []) (get_or xs j 0) w)))
 
 -- some entry names node k, or none does
 abbrev Named : List ℕ → ℕ → ℕ → ℕ → Type 0
@@ -110,8 +111,8 @@ module _ (nodes : List ℕ) (count : ℕ) (order : List ℕ) (from end : ℕ) (g
       go (inl e) = omega (arith, e, m)
       go (inr e) = omega (arith, e.1)
 
-  pub steppable_again : Steppable nodes count v → Steppable nodes count u
-  steppable_again p = record { room = p.room; stored = omega (arith, p.stored, same); graded = at }
+  pub steppable_again : Steppable count v → Steppable count u
+  steppable_again p = record { stored = omega (arith, p.stored, same); graded = at }
     where
       at : (k : ℕ) → 2 < get_or u k 0 → 143 < get_or u k 0
       at k m = go (value_at k)

@@ -10,8 +10,8 @@ use lib.Dec.{eqb}
 use borrow.Author.Tests.{eqb-true, eqb-false}
 use lib.ListN.{length, get_or, set, length-set}
 use lib.Seq.{get_or-set_same, get_or-set_other}
+use Rattle.std.proofs.lemmas.Bool.{and_parts}
 use Rattle.laws.specs.Lists.{elem}
-use Rattle.laws.proofs.Tests.{and-true}
 use Rattle.laws.proofs.Lists.{elem_here, elem-later, elem_snoc_other}
 use Rattle.circuit.specs.declared.records.BoolWire.{BoolWire}
 use Rattle.circuit.specs.declared.records.BoolWire.TheVariants.{Const, Node}
@@ -84,7 +84,7 @@ module _ (ns : List BoolNode) (os : List BoolWire) (assignment : List ℕ) (soun
   unfolding steps fit
   steps_right [] taken s f h = rw append-nil h
   steps_right (x ∷ order) taken s f h =
-      let g = and-true (ready (graph_of ns) taken x) (fit (graph_of ns) (taken ++ x ∷ []) order) f in
+      let g = and_parts (ready (graph_of ns) taken x) (fit (graph_of ns) (taken ++ x ∷ []) order) f in
       rw append_assoc at (steps_right order (taken ++ x ∷ []) (step ns s x) g.1 (step_right taken s x g.0 h))
 
   pub start_right : (old : List ℕ) → length ns ≤ length old → Right ns assignment [] (put_in assignment 0 0 old ns)
@@ -103,7 +103,7 @@ module _ (ns : List BoolNode) (os : List BoolWire) (assignment : List ℕ) (soun
   pub along : (order old : List ℕ) → length ns ≤ length old → fit_list (graph_of ns) order ≡ true → run_outputs ns os assignment order old ≡ storage_outputs ns os assignment
   unfolding run_outputs run_store storage_outputs outputs_from fit_list
   along order old l f =
-      let g = and-true (fit (graph_of ns) [] order) (eqb (length order) (length (cells_of (graph_of ns)))) f in
+      let g = and_parts (fit (graph_of ns) [] order) (eqb (length order) (length (cells_of (graph_of ns)))) f in
       let full = eqb-true (length order) (length (cells_of (graph_of ns))) g.1 in
       let done : left (graph_of ns) order ≡ 0 = omega (arith, left_fit (graph_of ns) [] order g.0, left_start (graph_of ns), full) in
       let r = steps_right order [] (put_in assignment 0 0 old ns) g.0 (start_right old l) in

@@ -9,13 +9,13 @@ use native.Mathlib.Omega.{arith}
 use lib.Dec.{eqb, ltb}
 use borrow.Author.Tests.{eqb-true, eq-eqb, ne_eqb, ltb-false, lt-ltb, le-ltb, not-false}
 use lib.ListN.{length, replicate}
+use Rattle.std.proofs.lemmas.Bool.{and_parts, or_parts}
 use Rattle.laws.specs.Lists.{some}
-use Rattle.laws.proofs.Tests.{and-true, neither}
 use Rattle.circuit.specs.declared.refusals.Refusal.{Refusal}
 use Rattle.circuit.specs.declared.refusals.Refusal.TheVariants.{NoRoom, WrongValues, UnfitOrder}
 use Rattle.circuit.specs.Refusals.{Checked}
 use Rattle.circuit.specs.declared.records.BoolNode.{BoolNode}
-use Rattle.circuit.specs.Refusals.{number_of, refuse_if}
+use Rattle.circuit.specs.Refusals.{number_of, refuse_if, first_fault}
 use Rattle.circuit.specs.Records.{nodes_of}
 use Rattle.circuit.specs.Check.{some_not_below, whole, check_nodes, check_circuit, nodes_in, wires_in, topological_fault}
 use Rattle.circuit.specs.Graph.{graph_of, cells_of, fit, fit_list}
@@ -24,7 +24,7 @@ use Rattle.circuit.proofs.Checks.{no_fault, not_refused}
 use Rattle.runs.specs.Values.{entry_of, values_from, evaluated}
 use Rattle.runs.specs.Runs.{input_count, wrong_assignment, run_store, run_outputs}
 use Rattle.runs.specs.Fit.{Accepted}
-use Rattle.runs.specs.Calls.{assignment_fault, order_fault, room_fault, run_fault, evaluate_fault, Result, leaves, run_call, evaluate_call, call_result}
+use Rattle.runs.specs.Calls.{assignment_fault, assigned_fault, order_fault, room_fault, run_fault, evaluate_fault, Result, leaves, run_call, evaluate_call, call_result}
 use Rattle.runs.proofs.Turns.{cells_inputs, length-outputs}
 
 -- ---- 20
@@ -67,7 +67,7 @@ module _ (top : ℕ) (ns : List BoolNode) (assignment : List ℕ) where
   pub assigned : wrong_assignment top ns assignment ≡ false → (length assignment ≡ input_count ns) × (some (ltb top) assignment ≡ false)
   unfolding wrong_assignment
   assigned e =
-      let g = neither (not (eqb (length assignment) (input_count ns))) (some (ltb top) assignment) e in
+      let g = or_parts (not (eqb (length assignment) (input_count ns))) (some (ltb top) assignment) e in
       (eqb-true (length assignment) (input_count ns) (not-false (eqb (length assignment) (input_count ns)) g.0), g.1)
 
 -- ---- 3
@@ -92,7 +92,7 @@ module _ (nodes outputs : List ℕ) (store answers : ℕ) where
   pub room_of : room_fault nodes outputs store answers ≡ Ok tt → Room
   unfolding room_fault
   room_of e =
-      let g = neither (ltb store (length nodes / 9)) (ltb answers (length outputs / 5)) (not_refused _ NoRoom e) in
+      let g = or_parts (ltb store (length nodes / 9)) (ltb answers (length outputs / 5)) (not_refused _ NoRoom e) in
       record { store_room = ltb-false store (length nodes / 9) g.0; answers_room = ltb-false answers (length outputs / 5) g.1 }
 
 -- ---- a circuit that the check accepts, in its areas
@@ -112,26 +112,50 @@ module _ (nodes outputs : List ℕ) (e : topological_fault nodes outputs ≡ Ok 
   pub outputs_wired : some_not_below (length nodes / 9) (wires_in outputs) ≡ false
   outputs_wired = checked.1
 
+-- ---- the first refusal of both calls: 15, 16, 19
+
+first_then : (a b c : Checked) → first_fault (first_fault a b) c ≡ first_fault a (first_fault b c)
+first_then (Err e) b c = refl
+first_then (Ok u) b c = refl
+
+module _ (top : ℕ) (nodes outputs assignment : List ℕ) where
+  pub unchecked : (r : Refusal) → topological_fault nodes outputs ≡ Err r → Err r ≡ assigned_fault top nodes outputs assignment
+  unchecked r e = rw e
+
+  module _ (e : topological_fault nodes outputs ≡ Ok tt) where
+    pub unassigned : wrong_assignment top (nodes_in nodes) assignment ≡ true → Err WrongValues ≡ assigned_fault top nodes outputs assignment
+    unfolding assignment_fault
+    unassigned a = rw (e, a)
+
+    pub well_assigned : wrong_assignment top (nodes_in nodes) assignment ≡ false → (Ok tt) ≡ assigned_fault top nodes outputs assignment
+    unfolding assignment_fault
+    well_assigned a = rw (e, a)
+
+  pub assigned_parts : assigned_fault top nodes outputs assignment ≡ Ok tt → (topological_fault nodes outputs ≡ Ok tt) × (wrong_assignment top (nodes_in nodes) assignment ≡ false)
+  unfolding assignment_fault
+  assigned_parts e = let p = no_fault (topological_fault nodes outputs) _ e in (p.0, not_refused _ WrongValues p.1)
+
 -- ---- the run's first refusal
 
 module _ (nodes outputs order assignment : List ℕ) (store answers : ℕ) where
-  pub run_unchecked : (r : Refusal) → topological_fault nodes outputs ≡ Err r → Err r ≡ run_fault nodes outputs order assignment store answers
+  run_parts : first_fault (assigned_fault 2 nodes outputs assignment) (first_fault (order_fault nodes order) (room_fault nodes outputs store answers)) ≡ run_fault nodes outputs order assignment store answers
   unfolding run_fault
-  run_unchecked r e = rw e
+  run_parts = first_then (topological_fault nodes outputs) (assignment_fault 2 nodes assignment) (first_fault (order_fault nodes order) (room_fault nodes outputs store answers))
 
-  module _ (e : topological_fault nodes outputs ≡ Ok tt) where
-    pub run_unassigned : wrong_assignment 2 (nodes_in nodes) assignment ≡ true → Err WrongValues ≡ run_fault nodes outputs order assignment store answers
-    unfolding run_fault assignment_fault
-    run_unassigned a = rw (e, a)
+  pub run_unassigned : (r : Refusal) → assigned_fault 2 nodes outputs assignment ≡ Err r → Err r ≡ run_fault nodes outputs order assignment store answers
+  run_unassigned r e = ap (λ (f : Checked). first_fault f (first_fault (order_fault nodes order) (room_fault nodes outputs store answers))) (sym e) ∙ run_parts
 
-    module _ (a : wrong_assignment 2 (nodes_in nodes) assignment ≡ false) where
-      pub run_unfit : fit_list (graph_of (nodes_in nodes)) order ≡ false → Err UnfitOrder ≡ run_fault nodes outputs order assignment store answers
-      unfolding run_fault assignment_fault order_fault
-      run_unfit f = rw (e, a, f)
+  module _ (e : assigned_fault 2 nodes outputs assignment ≡ Ok tt) where
+    run_then : first_fault (order_fault nodes order) (room_fault nodes outputs store answers) ≡ run_fault nodes outputs order assignment store answers
+    run_then = ap (λ (f : Checked). first_fault f (first_fault (order_fault nodes order) (room_fault nodes outputs store answers))) (sym e) ∙ run_parts
 
-      pub run-fit : fit_list (graph_of (nodes_in nodes)) order ≡ true → room_fault nodes outputs store answers ≡ run_fault nodes outputs order assignment store answers
-      unfolding run_fault assignment_fault order_fault
-      run-fit f = rw (e, a, f)
+    pub run_unfit : fit_list (graph_of (nodes_in nodes)) order ≡ false → Err UnfitOrder ≡ run_fault nodes outputs order assignment store answers
+    unfolding order_fault
+    run_unfit f = let r : Err UnfitOrder ≡ first_fault (order_fault nodes order) (room_fault nodes outputs store answers) = rw f in r ∙ run_then
+
+    pub run-fit : fit_list (graph_of (nodes_in nodes)) order ≡ true → room_fault nodes outputs store answers ≡ run_fault nodes outputs order assignment store answers
+    unfolding order_fault
+    run-fit f = let r : room_fault nodes outputs store answers ≡ first_fault (order_fault nodes order) (room_fault nodes outputs store answers) = rw f in r ∙ run_then
 
   -- what an accepted run has
   pub record Runs : Type 0 where
@@ -160,23 +184,20 @@ module _ (nodes outputs order assignment : List ℕ) (store answers : ℕ) where
   unfolding fit_list
   cells-of r =
       eqb-true (length order) (length (cells_of (graph_of (nodes_in nodes))))
-      (and-true (fit (graph_of (nodes_in nodes)) [] order) (eqb (length order) (length (cells_of (graph_of (nodes_in nodes))))) r.fits).1
+      (and_parts (fit (graph_of (nodes_in nodes)) [] order) (eqb (length order) (length (cells_of (graph_of (nodes_in nodes))))) r.fits).1
 
 -- ---- `evaluate`'s first refusal
 
 module _ (nodes outputs assignment : List ℕ) (store answers : ℕ) where
-  pub evaluate_unchecked : (r : Refusal) → topological_fault nodes outputs ≡ Err r → Err r ≡ evaluate_fault nodes outputs assignment store answers
+  evaluate_parts : first_fault (assigned_fault 1 nodes outputs assignment) (room_fault nodes outputs store answers) ≡ evaluate_fault nodes outputs assignment store answers
   unfolding evaluate_fault
-  evaluate_unchecked r e = rw e
+  evaluate_parts = first_then (topological_fault nodes outputs) (assignment_fault 1 nodes assignment) (room_fault nodes outputs store answers)
 
-  module _ (e : topological_fault nodes outputs ≡ Ok tt) where
-    pub evaluate_unassigned : wrong_assignment 1 (nodes_in nodes) assignment ≡ true → Err WrongValues ≡ evaluate_fault nodes outputs assignment store answers
-    unfolding evaluate_fault assignment_fault
-    evaluate_unassigned a = rw (e, a)
+  pub evaluate_unassigned : (r : Refusal) → assigned_fault 1 nodes outputs assignment ≡ Err r → Err r ≡ evaluate_fault nodes outputs assignment store answers
+  evaluate_unassigned r e = ap (λ (f : Checked). first_fault f (room_fault nodes outputs store answers)) (sym e) ∙ evaluate_parts
 
-    pub evaluate_assigned : wrong_assignment 1 (nodes_in nodes) assignment ≡ false → room_fault nodes outputs store answers ≡ evaluate_fault nodes outputs assignment store answers
-    unfolding evaluate_fault assignment_fault
-    evaluate_assigned a = rw (e, a)
+  pub evaluate_assigned : assigned_fault 1 nodes outputs assignment ≡ Ok tt → room_fault nodes outputs store answers ≡ evaluate_fault nodes outputs assignment store answers
+  evaluate_assigned e = ap (λ (f : Checked). first_fault f (room_fault nodes outputs store answers)) (sym e) ∙ evaluate_parts
 
   pub record Evaluates : Type 0 where
     pub checks : topological_fault nodes outputs ≡ Ok tt

@@ -1,6 +1,6 @@
 -- The laws of a cell with one wire more than a number, 0 or 1: its last wire, and when it breaks a rule.
 -- Assumes nothing.
-use mathlib.Core.Path.{◌≡◌, refl, ap}
+use mathlib.Core.Path.{◌≡◌, refl, ap, ◌∙◌}
 use mathlib.Core.Logic.{◌⊎◌, inl, inr}
 use mathlib.Core.List.{List}
 use mathlib.Core.Bool.{true}
@@ -8,8 +8,10 @@ use Prim.Native.Nat.{ℕ, zero, suc, ◌+◌, ◌*◌, ◌<◌, ◌≤◌}
 use native.Mathlib.Nat.{add-zero}
 use native.Mathlib.Omega.{arith}
 use lib.ListN.{get_or}
-use Rattle.circuit.specs.Records.{node_at}
+use Rattle.circuit.specs.Records.{wire_of, node_at}
 use Rattle.circuit.specs.Check.{node_broken}
+use Rattle.runs.specs.Values.{signal_value}
+use Rattle.runs.specs.Work.{OneWire, TwoWires}
 use Rattle.runs.proofs.Rules.{one_broken, two_broken, second_broken}
 use Rattle.runs.proofs.Turns.{word-ahead, word_behind}
 
@@ -43,3 +45,43 @@ module _ (nodes : List ℕ) (k more : ℕ) (kind : (node_at nodes k).kind ≡ 2)
       go (inr e) =
           second_broken k (node_at nodes k) kind (omega (arith, count, e.0)) (omega (arith, t, e.0)) (word_behind k (get_or nodes (k * 9 + 7) 0) f)
           (word-ahead k (get_or nodes (k * 9 + 8) 0) (omega (arith, l, e.1)))
+
+  -- its table and the values of its wires, the first times the number
+  pub counted_wires : (node_at nodes k).table < 12 * more + 4 → get_or nodes (k * 9 + 7) 0 < k + 2 → get_or nodes (k * 9 + 7 + more) 0 < k + 2
+      → (s : List ℕ) (v w : ℕ) → v ≡ signal_value s (wire_of (get_or nodes (k * 9 + 7) 0)) → w ≡ signal_value s (wire_of (get_or nodes (k * 9 + 7 + more) 0))
+      → {C : Type 0} → (OneWire k (node_at nodes k) s (node_at nodes k).table (more * v) w → C) → (TwoWires k (node_at nodes k) s (node_at nodes k).table (more * v) w → C) → C
+  counted_wires t f l s v w a b {C} one two = go (last_word nodes (k * 9) more few)
+    where
+      times : (m : ℕ) → more ≡ m → more * v ≡ m * v
+      times m e = ap (λ (i : ℕ). i * v) e
+
+      same : (word : ℕ) → get_or nodes (k * 9 + 7 + more) 0 ≡ word → w ≡ signal_value s (wire_of word)
+      same word e = b ∙ ap (λ (i : ℕ). signal_value s (wire_of i)) e
+
+      go : LastWord nodes (k * 9) more → C
+      go (inl e) =
+          let first = get_or nodes (k * 9 + 7) 0 in
+          let i : 0 * v ≡ 0 = omega arith in
+          one (record {
+            kind = kind;
+            count = omega (arith, count, e.0);
+            by_table = refl;
+            small = omega (arith, t, e.0);
+            none = times 0 e.0 ∙ i;
+            value = same first e.1;
+            earlier = word_behind k first f;
+          })
+      go (inr e) =
+          let first = get_or nodes (k * 9 + 7) 0 in
+          let second = get_or nodes (k * 9 + 8) 0 in
+          let i : 1 * v ≡ v = omega arith in
+          two (record {
+            kind = kind;
+            count = omega (arith, count, e.0);
+            by_table = refl;
+            small = omega (arith, t, e.0);
+            first_value = times 1 e.0 ∙ i ∙ a;
+            first_earlier = word_behind k first f;
+            second_value = same second e.1;
+            second_earlier = word_behind k second (omega (arith, l, e.1));
+          })

@@ -1,22 +1,22 @@
 -- The laws of `evaluate`: a cell's entry, and the two-valued storage order.
 -- Assumes nothing.
 use Rattle.std.specs.Prelude.{Option, Some, None}
-use mathlib.Core.Path.{◌≡◌, refl, sym, ap, ◌∙◌, subst}
-use mathlib.Core.Logic.{inl, inr}
+use mathlib.Core.Path.{◌≡◌, refl, sym, ap, ap₂, ◌∙◌, subst}
 use mathlib.Core.List.{List, [], ◌∷◌, map}
 use mathlib.Core.Bool.{Bool, true, false}
-use Prim.Native.Nat.{ℕ, zero, suc, ◌+◌, ◌*◌, ◌<◌, ◌≤◌}
+use Prim.Native.Nat.{ℕ, zero, suc, ◌+◌, ◌*◌, ◌%◌, ◌<◌, ◌≤◌}
 use native.Mathlib.Nat.{zero-add}
 use native.Mathlib.Omega.{arith}
 use lib.Dec.{ltb}
 use borrow.Author.Tests.{eq-eqb, ltb-false, leb-false, le-ltb}
 use lib.ListN.{length, get_or}
+use Rattle.std.proofs.lemmas.Bool.{cond-false, cond-true, false_from_ne_true, or_parts}
 use Rattle.laws.specs.Lists.{some}
-use Rattle.laws.proofs.Tests.{neither, clash, false_of, cond-true, cond-false}
+use Rattle.laws.proofs.Tests.{clash}
 use Rattle.circuit.specs.declared.records.BoolWire.{BoolWire}
 use Rattle.circuit.specs.declared.records.BoolWire.TheVariants.{Const, Node}
 use Rattle.circuit.specs.declared.records.BoolNode.{BoolNode}
-use Rattle.circuit.specs.Records.{wire_of, node_at, nodes_of, is_cell_node, no_node, wires_of}
+use Rattle.circuit.specs.Records.{node_at, nodes_of, is_cell_node, no_node, wires_of}
 use Rattle.circuit.specs.Check.{not_below, some_not_below, node_broken}
 use Rattle.circuit.specs.Graph.{graph_of, waits}
 use Rattle.circuit.proofs.Codes.{length_nodes, node_of}
@@ -26,13 +26,12 @@ use Rattle.cells.specs.Cells.{entry, index_from}
 use Rattle.cells.proofs.Rule.{entry-bit}
 use Rattle.runs.specs.Values.{signal_value, answer_of, entry_of, outputs_from, storage_values, storage_outputs, evaluated}
 use Rattle.runs.specs.Fit.{Accepted}
-use Rattle.runs.specs.Work.{Next, checked_entry}
+use Rattle.runs.specs.Work.{OneWire, TwoWires, checked_entry}
 use Rattle.runs.specs.Steps.{Standing}
 use Rattle.runs.proofs.Storage.{Known, wires_below, value_cell, answer_entry, values_known, values_same, evaluate_same}
 use Rattle.runs.proofs.Stepping.{wires_one, wires_two}
 use Rattle.runs.proofs.Rules.{one_unbroken, two_rules, two_unbroken}
-use Rattle.runs.proofs.Counted.{times_few, LastWord, last_word, over_broken, last_broken}
-use Rattle.runs.proofs.Turns.{accepted_at, word_behind}
+use Rattle.runs.proofs.Turns.{accepted_at}
 
 -- ---- a cell's entry
 
@@ -91,47 +90,19 @@ module _ (k : ℕ) (n : BoolNode) (s : List ℕ) where
         let x : r ≡ entry_of s n = g ∙ ap (entry n.table) i ∙ ap (λ (ws : List BoolWire). entry n.table (index_from 0 (map (signal_value s) ws))) (sym (wires_two n cell (two_rules k n kind two h f) (λ z. omega (arith, two, z)))) in
         rw (sym (two_unbroken k n kind two h f e)) (ap Some x)
 
--- ---- the entry of a cell with one wire more than a number
+-- ---- by the table and the values of the wires
 
-module _ (nodes : List ℕ) (k more : ℕ) (s : List ℕ) (p : Next nodes k s × ((node_at nodes k).kind ≡ 2) × ((node_at nodes k).count ≡ more + 1) × (more < 2)) where
-  abbrev n : BoolNode
-  n = node_at nodes k
+module _ (k : ℕ) (n : BoolNode) (s : List ℕ) (known : (i : ℕ) → i < k → get_or s i 0 < 2) (table first second r : ℕ) (q : r ≡ entry table ((2 * first + second) % 64)) where
+  pub entry_one_wire : OneWire k n s table first second → ◌≡◌ {A = Option ℕ} (Some r) (checked_entry k n s)
+  entry_one_wire w =
+      let i : (2 * first + second) % 64 ≡ second = omega (arith, w.none, w.value, wire_bit s k known n.first w.earlier) in
+      entry-one k n s w.kind second w.value w.earlier w.count (omega (arith, w.small, w.by_table)) r (q ∙ ap₂ entry w.by_table i)
 
-  -- the words of its first wire and of its last
-  abbrev first : ℕ
-  first = get_or nodes (k * 9 + 7) 0
-
-  abbrev last : ℕ
-  last = get_or nodes (k * 9 + 7 + more) 0
-
-  pub table_over : 12 * more + 4 ≤ n.table → ◌≡◌ {A = Option ℕ} None (checked_entry k n s)
-  table_over t = entry_broken k n s (over_broken nodes k more p.1 p.2 p.3 t)
-
-  module _ (t : n.table < 12 * more + 4) (f : first < k + 2) where
-    pub last_ahead : k + 2 ≤ last → ◌≡◌ {A = Option ℕ} None (checked_entry k n s)
-    last_ahead l = entry_broken k n s (last_broken nodes k more p.1 p.2 p.3 t f l)
-
-    module _ (l : last < k + 2) (v w : ℕ) (a : v ≡ signal_value s (wire_of first)) (b : w ≡ signal_value s (wire_of last)) where
-      pub index_small : 2 * (more * v) + w < 4
-      index_small = omega (arith, a, b, times_few more v p.3, wire_bit s k p.0.known (wire_of first) (word_behind k first f), wire_bit s k p.0.known (wire_of last) (word_behind k last l))
-
-      pub entry-counted : (r : ℕ) → r ≡ entry n.table (2 * (more * v) + w) → ◌≡◌ {A = Option ℕ} (Some r) (checked_entry k n s)
-      entry-counted r q = go (last_word nodes (k * 9) more p.3)
-        where
-          index : (m : ℕ) → more ≡ m → r ≡ entry n.table (2 * (m * v) + w)
-          index m e = q ∙ ap (λ (i : ℕ). entry n.table (2 * (i * v) + w)) e
-
-          same : (word : ℕ) → last ≡ word → w ≡ signal_value s (wire_of word)
-          same word e = b ∙ ap (λ (i : ℕ). signal_value s (wire_of i)) e
-
-          go : LastWord nodes (k * 9) more → ◌≡◌ {A = Option ℕ} (Some r) (checked_entry k n s)
-          go (inl e) =
-              let i : 2 * (0 * v) + w ≡ w = omega arith in
-              entry-one k n s p.1 w (same first e.1) (word_behind k first f) (omega (arith, p.2, e.0)) (omega (arith, t, e.0)) r (index 0 e.0 ∙ ap (entry n.table) i)
-          go (inr e) =
-              let i : 2 * (1 * v) + w ≡ 2 * v + w = omega arith in
-              let second = get_or nodes (k * 9 + 8) 0 in
-              entry_two k n s p.1 v a (word_behind k first f) (omega (arith, p.2, e.0)) (omega (arith, t, e.0)) w (same second e.1) (word_behind k second (omega (arith, l, e.1))) r (index 1 e.0 ∙ ap (entry n.table) i)
+  pub entry_two_wires : TwoWires k n s table first second → ◌≡◌ {A = Option ℕ} (Some r) (checked_entry k n s)
+  entry_two_wires w =
+      let i : (2 * first + second) % 64 ≡ 2 * first + second =
+      omega (arith, w.first_value, w.second_value, wire_bit s k known n.first w.first_earlier, wire_bit s k known n.second w.second_earlier) in
+      entry_two k n s w.kind first w.first_value w.first_earlier w.count (omega (arith, w.small, w.by_table)) second w.second_value w.second_earlier r (q ∙ ap₂ entry w.by_table i)
 
 -- ---- a node's value
 
@@ -164,15 +135,15 @@ module _ (nodes : List ℕ) (count : ℕ) (ok : Accepted nodes count) (a : List 
   pub other_value : (before : List ℕ) → Standing (nodes_of nodes count) a [] before → is_cell_node (node_at nodes k) ≡ false → get_or before k 0 ≡ get_or (storage_values (nodes_of nodes count) a) k 0
   other_value before st c =
       st.right k inside
-      (false_of (waits (graph_of (nodes_of nodes count)) [] k)
+      (false_from_ne_true (waits (graph_of (nodes_of nodes count)) [] k)
       (λ w. clash (ap is_cell_node (sym (node_of nodes count k h)) ∙ sym (cell-at (nodes_of nodes count) k) ∙ waits-cell (graph_of (nodes_of nodes count)) [] k w) c))
 
 -- ---- assignments
 
 pub assigned_below : (top : ℕ) (assignment : List ℕ) → some (ltb top) assignment ≡ false → (i : ℕ) → get_or assignment i 0 ≤ top
 assigned_below top [] e i = omega arith
-assigned_below top (v ∷ vs) e zero = ltb-false top v (neither (ltb top v) (some (ltb top) vs) e).0
-assigned_below top (v ∷ vs) e (suc i) = assigned_below top vs (neither (ltb top v) (some (ltb top) vs) e).1 i
+assigned_below top (v ∷ vs) e zero = ltb-false top v (or_parts (ltb top v) (some (ltb top) vs) e).0
+assigned_below top (v ∷ vs) e (suc i) = assigned_below top vs (or_parts (ltb top v) (some (ltb top) vs) e).1 i
 
 pub assigned_bits : (assignment : List ℕ) → some (ltb 1) assignment ≡ false → (i : ℕ) → get_or assignment i 0 < 2
 assigned_bits assignment e i = omega (arith, assigned_below 1 assignment e i)
@@ -180,7 +151,7 @@ assigned_bits assignment e i = omega (arith, assigned_below 1 assignment e i)
 pub bits_below : (assignment : List ℕ) → some (ltb 1) assignment ≡ false → some (ltb 2) assignment ≡ false
 bits_below [] e = refl
 bits_below (v ∷ vs) e =
-    let g = neither (ltb 1 v) (some (ltb 1) vs) e in
+    let g = or_parts (ltb 1 v) (some (ltb 1) vs) e in
     rw (le-ltb 2 v (omega (arith, ltb-false 1 v g.0))) (bits_below vs g.1)
 
 -- a store with the storage order's values gives the outputs

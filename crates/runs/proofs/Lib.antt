@@ -1,3 +1,4 @@
+pub mod NodeValues
 pub mod Storage
 pub mod Along
 pub mod Stepping
@@ -5,6 +6,7 @@ pub mod Marking
 pub mod Blocks
 pub mod Turns
 pub mod Calls
+pub mod Parts
 pub mod Passing
 pub mod Rules
 pub mod Counted

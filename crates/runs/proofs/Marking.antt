@@ -11,10 +11,11 @@ use lib.Dec.{eqb, leb, ltb}
 use borrow.Author.Tests.{lt-leb, le-leb, le-ltb, lt-ltb, eq-eqb, ne_eqb, leb-true, ltb-true, leb-false, eqb-true, eqb-false}
 use lib.ListN.{length, get_or, set, replicate, length-set}
 use lib.Seq.{get_or-set_same, get_or-set_other}
+use Rattle.std.proofs.lemmas.Bool.{and_parts, false_from_ne_true, or_parts}
 use Rattle.laws.specs.Bits.{bit, set_bit}
 use Rattle.laws.specs.Lists.{elem}
 use Rattle.laws.proofs.Bits.{bit-set_same, bit-set_other}
-use Rattle.laws.proofs.Tests.{and-true, clash, false_of, neither}
+use Rattle.laws.proofs.Tests.{clash}
 use Rattle.laws.proofs.Lists.{elem_snoc_other, elem_snoc_same}
 use Rattle.laws.proofs.Filling.{zero_at}
 use Rattle.circuit.specs.declared.records.BoolWire.{BoolWire}
@@ -44,7 +45,7 @@ block_in lo size k h g = ap₂ ◌&&◌ (le-leb lo k h) (lt-ltb k (lo + size) (o
 
 in_block : (lo size k : ℕ) → within lo size k ≡ true → (lo ≤ k) × (k < lo + size)
 unfolding within
-in_block lo size k h = let g = and-true (leb lo k) (ltb k (lo + size)) h in (leb-true lo k g.0, ltb-true k (lo + size) g.1)
+in_block lo size k h = let g = and_parts (leb lo k) (ltb k (lo + size)) h in (leb-true lo k g.0, ltb-true k (lo + size) g.1)
 
 -- ---- a read by the marks
 
@@ -181,7 +182,7 @@ module _ (nodes : List ℕ) (count lo : ℕ) (marks taken : List ℕ) (m : Marks
   free_wires [] h = refl
   free_wires (Const b ∷ ws) h = free_wires ws h
   free_wires (Node n ∷ ws) h =
-      let g = neither (not_below count (Node n)) (some_not_below count ws) h in
+      let g = or_parts (not_below count (Node n)) (some_not_below count ws) h in
       ap₂ ◌&&◌ (ap not (sym (here_waits n.0 (leb-false count n.0 g.0)))) (free_wires ws g.1)
       ∙ sym (not_or (waits_here nodes lo marks n.0) (some_waits nodes lo marks ws))
 
@@ -202,4 +203,4 @@ module _ (nodes : List ℕ) (count lo : ℕ) (marks taken : List ℕ) (m : Marks
   entry_other x h e = no_cell x (cell-word x h ∙ ne_eqb (get_or nodes (x * 9) 0) 2 e)
 
   pub entry_past : (x : ℕ) → count ≤ x → false ≡ ready_in (within lo (block_size marks)) (graph_of (nodes_of nodes count)) taken x
-  entry_past x h = no_cell x (false_of (is_cell (graph_of (nodes_of nodes count)) x) (λ e. omega (arith, cell_below (graph_of (nodes_of nodes count)) x e, length_graph (nodes_of nodes count), length_nodes nodes count)))
+  entry_past x h = no_cell x (false_from_ne_true (is_cell (graph_of (nodes_of nodes count)) x) (λ e. omega (arith, cell_below (graph_of (nodes_of nodes count)) x e, length_graph (nodes_of nodes count), length_nodes nodes count)))

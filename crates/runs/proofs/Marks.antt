@@ -10,7 +10,8 @@ use lib.Dec.{eqb, ltb}
 use borrow.Author.Tests.{eqb-true, eqb-false, ltb-true, ltb-false, lt-ltb, le-ltb, ne_eqb}
 use lib.ListN.{length, get_or, set}
 use lib.Seq.{get_or-set_same, get_or-set_other}
-use Rattle.laws.proofs.Tests.{clash, true_of, false_of, cond-true, cond-false}
+use Rattle.std.proofs.lemmas.Bool.{cond-false, cond-true, false_from_ne_true, true_from_ne_false}
+use Rattle.laws.proofs.Tests.{clash}
 use Rattle.circuit.specs.Records.{node_at, nodes_of, is_cell_node}
 use Rattle.circuit.specs.Check.{node_broken}
 use Rattle.runs.specs.Runs.{input_count}
@@ -76,7 +77,7 @@ unfolding mark_count
 last_none n s e = (q, sym (cond-false (ltb 2 (get_or s n 0)) (suc (mark_count n s)) (mark_count n s) q) ∙ e)
   where
     q : ltb 2 (get_or s n 0) ≡ false
-    q = false_of (ltb 2 (get_or s n 0)) (λ t. let z : suc (mark_count n s) ≡ 0 = sym (cond-true (ltb 2 (get_or s n 0)) (suc (mark_count n s)) (mark_count n s) t) ∙ e in omega (arith, z))
+    q = false_from_ne_true (ltb 2 (get_or s n 0)) (λ t. let z : suc (mark_count n s) ≡ 0 = sym (cond-true (ltb 2 (get_or s n 0)) (suc (mark_count n s)) (mark_count n s) t) ∙ e in omega (arith, z))
 
 pub marks_none : (n : ℕ) (s : List ℕ) → mark_count n s ≡ 0 → (k : ℕ) → k < n → get_or s k 0 < 3
 marks_none zero s e k h = absurd (omega arith)
@@ -234,7 +235,7 @@ module _ (nodes : List ℕ) (count : ℕ) (assignment before : List ℕ) (i : In
       each k h = go (is_cell_node (node_at nodes k)) refl
         where
           go : (b : Bool) → is_cell_node (node_at nodes k) ≡ b → (is_cell_node (node_at nodes k) ≡ ltb 2 (get_or before k 0)) × (node_broken k (node_at nodes k) ≡ false)
-          go true c = (c ∙ sym (true_of (ltb 2 (get_or before k 0)) (λ e. clash c (unmarked_input k h (omega (arith, ltb-false 2 (get_or before k 0) e))).0)), (s k h).cell c)
+          go true c = (c ∙ sym (true_from_ne_false (ltb 2 (get_or before k 0)) (λ e. clash c (unmarked_input k h (omega (arith, ltb-false 2 (get_or before k 0) e))).0)), (s k h).cell c)
           go false c =
               let m : get_or before k 0 < 2 = (s k h).other c in
               (c ∙ sym (le-ltb 2 (get_or before k 0) (omega (arith, m))), (unmarked_input k h (omega (arith, m))).1)

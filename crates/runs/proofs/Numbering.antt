@@ -12,8 +12,9 @@ use lib.Dec.{ltb}
 use lib.Pow.{pow_pos}
 use borrow.Author.Tests.{eq-eqb, ne_eqb, ltb-true, ltb-false, lt-ltb, le-ltb}
 use lib.ListN.{length, get_or, replicate}
+use Rattle.std.proofs.Math.Bool.{or-true}
+use Rattle.std.proofs.lemmas.Bool.{cond-false, cond-true}
 use Rattle.laws.proofs.Areas.{up_more}
-use Rattle.laws.proofs.Tests.{or_true, cond-true, cond-false}
 use Rattle.circuit.specs.declared.records.BoolNode.{BoolNode}
 use Rattle.circuit.specs.declared.refusals.Refusal.{Refusal}
 use Rattle.circuit.specs.declared.refusals.Refusal.TheVariants.{Broken, NoRoom, WrongValues, TooManyInputs}
@@ -207,7 +208,7 @@ module _ (nodes outputs : List ℕ) where
 
   module _ (w : whole nodes outputs ≡ true) where
     pub counted_outside : some_not_below (length nodes / 9) (wires_in outputs) ≡ true → ◌≡◌ {A = Try ℕ} (Err Broken) counted
-    counted_outside o = rw (records_whole nodes outputs w, o, or_true (some_broken (length nodes / 9) (nodes_in nodes)))
+    counted_outside o = rw (records_whole nodes outputs w, o, or-true (some_broken (length nodes / 9) (nodes_in nodes)))
 
     pub counted_inside : some_not_below (length nodes / 9) (wires_in outputs) ≡ false → pass nodes (length nodes / 9) ≡ counted
     counted_inside o = rw (records_whole nodes outputs w, o) (go (some_broken (length nodes / 9) (nodes_in nodes)))

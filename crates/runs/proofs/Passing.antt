@@ -1,31 +1,29 @@
 -- The laws of a pass that checks the nodes on its way, and of the calls whose refusal is looked for after their work.
 -- Assumes nothing.
-use Rattle.std.specs.Prelude.{Err, Ok}
+use Rattle.std.specs.Prelude.{Ok}
 use mathlib.Core.Path.{◌≡◌, refl, sym, ap, ◌∙◌}
 use mathlib.Core.List.{List, [], ◌∷◌}
 use mathlib.Core.Bool.{Bool, true, false, not}
-use Prim.Native.Nat.{ℕ, zero, suc, ◌+◌, ◌*◌, ◌/◌, ◌%◌, ◌<◌, ◌≤◌}
+use Prim.Native.Nat.{ℕ, zero, suc, ◌+◌, ◌/◌, ◌%◌, ◌<◌, ◌≤◌}
 use native.Mathlib.Numerals.{add-one}
 use native.Mathlib.Omega.{arith}
 use lib.Dec.{eqb, ltb}
 use borrow.Author.Tests.{eqb-true, not-false}
 use lib.ListN.{length}
+use Rattle.std.proofs.lemmas.Bool.{and_parts, or_parts}
 use Rattle.laws.specs.Lists.{some}
-use Rattle.laws.proofs.Tests.{neither, clash, and-true}
-use Rattle.circuit.specs.declared.refusals.Refusal.{Refusal}
+use Rattle.laws.proofs.Tests.{clash}
 use Rattle.circuit.specs.declared.refusals.Refusal.TheVariants.{Broken}
-use Rattle.circuit.specs.Refusals.{Checked}
 use Rattle.circuit.specs.declared.records.BoolWire.{BoolWire}
 use Rattle.circuit.specs.declared.records.BoolNode.{BoolNode}
 use Rattle.circuit.specs.Refusals.{refuse_if}
-use Rattle.circuit.specs.Records.{NodeIs, node_at, nodes_of, wires_of}
+use Rattle.circuit.specs.Records.{node_at, nodes_of, wires_of}
 use Rattle.circuit.specs.Check.{record_broken, not_below, some_not_below, check_wires, check_node, check_nodes, check_circuit, node_broken, whole, nodes_in, wires_in, topological_fault}
 use Rattle.circuit.proofs.Checks.{no_fault, not_refused, rest, scan_start, scan_end, scan_passed, below_more, is_whole, topological_whole}
 use Rattle.runs.specs.Runs.{input_count, wrong_assignment}
 use Rattle.runs.specs.Work.{Tells, Prepared, Passing}
 use Rattle.runs.specs.Calls.{room_fault, evaluate_fault}
-use Rattle.runs.proofs.Turns.{node_at_is}
-use Rattle.runs.proofs.Calls.{right_length, has_room, Room, accepted_nodes, outputs_wired, evaluate_assigned, evaluates_of}
+use Rattle.runs.proofs.Calls.{right_length, has_room, Room, accepted_nodes, outputs_wired, well_assigned, evaluate_assigned, evaluates_of}
 
 -- ---- what a test's answer tells
 
@@ -41,40 +39,30 @@ pub tell : {P : Type 0} (r : Bool) → (r ≡ true → P) → (r ≡ false → P
 tell true f g = f refl
 tell false f g = g refl
 
-pub deny : {P : Type 0} (r : Bool) → r ≡ false → (P → ⊥) → Tells r P
-deny true e f = absurd (clash refl e)
-deny false e f = f
-
 -- ---- a node on the way
-
-pub refused_apart : (c : Checked) (r : Refusal) → c ≡ Err r → c ≡ Ok tt → ⊥
-refused_apart c r e q = let z : ◌≡◌ {A = ℕ} 0 1 = cc in omega arith
 
 -- what a node has that breaks no rule and reads below k alone
 pub node_sound : (k : ℕ) (n : BoolNode) → node_broken k n ≡ false → (record_broken n ≡ false) × (some_not_below k (wires_of n) ≡ false)
 unfolding node_broken
-node_sound k n e = neither (record_broken n) (some_not_below k (wires_of n)) e
+node_sound k n e = or_parts (record_broken n) (some_not_below k (wires_of n)) e
 
 wires_earlier : (m k : ℕ) → k ≤ m → (ws : List BoolWire) → some_not_below k ws ≡ false → check_wires m k ws ≡ Ok tt
 unfolding check_wires
 wires_earlier m k h [] e = refl
 wires_earlier m k h (w ∷ ws) e =
-    let g = neither (not_below k w) (some_not_below k ws) e in
+    let g = or_parts (not_below k w) (some_not_below k ws) e in
     rw (below_more k m h w g.0, g.0) (wires_earlier m k h ws g.1)
 
 module _ (nodes : List ℕ) (m k : ℕ) (h : k < m) where
   abbrev n : BoolNode
   n = node_at nodes k
 
-  e : NodeIs nodes (k * 9) (node_at nodes k)
-  e = node_at_is nodes k
-
   checked_node : record_broken n ≡ false → check_wires m k (wires_of n) ≡ Ok tt → check_node m k n ≡ Ok tt
   unfolding check_node
   checked_node r q = rw (r, q)
 
   scan_on : node_broken k n ≡ false → rest nodes m k ≡ rest nodes m (k + 1)
-  scan_on q = let g = node_sound k n q in scan_passed nodes m k h n e (checked_node g.0 (wires_earlier m k (omega arith) (wires_of n) g.1))
+  scan_on q = let g = node_sound k n q in scan_passed nodes m k h n refl (checked_node g.0 (wires_earlier m k (omega arith) (wires_of n) g.1))
 
 -- nodes of which none fails pass the check
 pub each-sound : (nodes : List ℕ) (m : ℕ) → ((k : ℕ) → k < m → node_broken k (node_at nodes k) ≡ false) → check_nodes m 0 (nodes_of nodes m) ≡ Ok tt
@@ -101,7 +89,7 @@ module _ (top : ℕ) (nodes outputs assignment : List ℕ) (store answers : ℕ)
 pub wholes : (nodes outputs : List ℕ) → whole nodes outputs ≡ true → (length nodes % 9 ≡ 0) × (length outputs % 5 ≡ 0)
 unfolding whole
 wholes nodes outputs w =
-    let g = and-true (eqb (length nodes % 9) 0) (eqb (length outputs % 5) 0) w in
+    let g = and_parts (eqb (length nodes % 9) 0) (eqb (length outputs % 5) 0) w in
     (eqb-true (length nodes % 9) 0 g.0, eqb-true (length outputs % 5) 0 g.1)
 
 whole_of : (nodes outputs : List ℕ) → topological_fault nodes outputs ≡ Ok tt → (length nodes % 9 ≡ 0) × (length outputs % 5 ≡ 0)
@@ -129,7 +117,7 @@ module _ (top : ℕ) (nodes outputs assignment : List ℕ) (store answers : ℕ)
 module _ (nodes outputs assignment : List ℕ) (store answers : ℕ) where
   pub evaluate_sound : Prepared 1 nodes outputs assignment store answers → Passing nodes (length nodes / 9) assignment → evaluate_fault nodes outputs assignment store answers ≡ Ok tt
   evaluate_sound a b =
-      sym (evaluate_assigned nodes outputs assignment store answers (passing_checked 1 nodes outputs assignment store answers a b) (passing_assigned 1 nodes outputs assignment store answers a b))
+      sym (evaluate_assigned nodes outputs assignment store answers (sym (well_assigned 1 nodes outputs assignment (passing_checked 1 nodes outputs assignment store answers a b) (passing_assigned 1 nodes outputs assignment store answers a b))))
       ∙ passing_room 1 nodes outputs assignment store answers a b
 
   pub evaluate_prepared : evaluate_fault nodes outputs assignment store answers ≡ Ok tt → Prepared 1 nodes outputs assignment store answers

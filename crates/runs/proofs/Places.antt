@@ -1,30 +1,28 @@
 -- The laws of the place of a cell's answer in the table of answers, which a record that breaks a rule or reads a cell that waits has not.
 -- Assumes nothing.
 use mathlib.Core.Path.{◌≡◌, refl, sym, ap, ap₂, ◌∙◌, subst}
-use mathlib.Core.Logic.{inl, inr}
 use mathlib.Core.List.{List, [], ◌∷◌, map}
 use mathlib.Core.Bool.{Bool, true, false}
 use Prim.Native.Nat.{ℕ, ◌+◌, ◌*◌, ◌<◌, ◌≤◌}
 use native.Mathlib.Omega.{arith}
 use lib.Dec.{ltb}
-use borrow.Author.Tests.{eqb-true, eq-eqb, ltb-true, ltb-false, le-ltb}
+use borrow.Author.Tests.{eq-eqb, ltb-true, ltb-false, le-ltb}
 use lib.ListN.{get_or}
+use Rattle.std.proofs.lemmas.Bool.{or_parts}
 use Rattle.laws.specs.Lists.{some}
-use Rattle.laws.proofs.Tests.{neither, clash}
+use Rattle.laws.proofs.Tests.{clash}
 use Rattle.circuit.specs.declared.records.BoolWire.{BoolWire}
 use Rattle.circuit.specs.declared.records.BoolWire.TheVariants.{Const, Node}
 use Rattle.circuit.specs.declared.records.BoolNode.{BoolNode}
-use Rattle.circuit.specs.Records.{wire_of, node_at, is_cell_node, wires_of}
+use Rattle.circuit.specs.Records.{is_cell_node, wires_of}
 use Rattle.circuit.specs.Check.{not_below, node_broken}
 use Rattle.cells.specs.Cells.{cell_rule, AnswerTable}
 use Rattle.cells.proofs.Answers.{answer_at, rule_one}
 use Rattle.runs.specs.Values.{signal_value, answer_of}
-use Rattle.runs.specs.Work.{Graded}
+use Rattle.runs.specs.Work.{Graded, OneWire, TwoWires}
 use Rattle.runs.specs.Steps.{marked, Ready, PlaceOf}
 use Rattle.runs.proofs.Stepping.{wires_one, wires_two}
 use Rattle.runs.proofs.Rules.{one_unbroken, two_unbroken, two_rules}
-use Rattle.runs.proofs.Turns.{word_behind}
-use Rattle.runs.proofs.Counted.{LastWord, last_word}
 
 wire_graded : (s : List ℕ) → Graded s → (w : BoolWire) → 2 < signal_value s w → 143 < signal_value s w
 wire_graded s g (Const true) h = absurd (omega (arith, h))
@@ -42,10 +40,6 @@ low v h g = go (ltb 2 v) refl
 module _ (x : ℕ) (n : BoolNode) (s : List ℕ) where
   no_place : (Ready x n s → ⊥) → PlaceOf x n s 144
   no_place h = record { found = λ g. absurd (omega (arith, g)); answer = λ g answers a. absurd (omega (arith, g)); missed = λ g r. h r }
-
-  pub other_place : (n.kind ≡ 2 → ⊥) → PlaceOf x n s 144
-  unfolding is_cell_node
-  other_place h = no_place (λ r. h (eqb-true n.kind 2 r.cell))
 
   pub broken_place : true ≡ node_broken x n → PlaceOf x n s 144
   broken_place e = no_place (λ r. clash (sym e) r.sound)
@@ -79,7 +73,7 @@ module _ (x : ℕ) (n : BoolNode) (s : List ℕ) where
 
           missed : 144 ≤ 9 * n.table + v → Ready x n s → ⊥
           missed l r =
-              let q = neither (ltb 2 (signal_value s n.first)) false (ap (some (marked s)) (sym wires) ∙ r.supplied) in
+              let q = or_parts (ltb 2 (signal_value s n.first)) false (ap (some (marked s)) (sym wires) ∙ r.supplied) in
               omega (arith, l, h, p, ltb-false 2 (signal_value s n.first) q.0)
 
     module _ (two : n.count ≡ 2) (h : n.table < 16) (w : ℕ) (q : w ≡ signal_value s n.second) (e : not_below x n.second ≡ false) where
@@ -105,32 +99,19 @@ module _ (x : ℕ) (n : BoolNode) (s : List ℕ) where
 
           missed : 144 ≤ 9 * n.table + 3 * v + w → Ready x n s → ⊥
           missed l r =
-              let a = neither (ltb 2 (signal_value s n.first)) (some (marked s) (n.second ∷ [])) (ap (some (marked s)) (sym wires) ∙ r.supplied) in
-              let b = neither (ltb 2 (signal_value s n.second)) false a.1 in
+              let a = or_parts (ltb 2 (signal_value s n.first)) (some (marked s) (n.second ∷ [])) (ap (some (marked s)) (sym wires) ∙ r.supplied) in
+              let b = or_parts (ltb 2 (signal_value s n.second)) false a.1 in
               omega (arith, l, h, p, q, ltb-false 2 (signal_value s n.first) a.0, ltb-false 2 (signal_value s n.second) b.0)
 
--- ---- a cell with one wire more than a number
+-- ---- by the table and the values of the wires
 
-module _ (nodes : List ℕ) (x more : ℕ) (s : List ℕ) (g : Graded s) (kind : (node_at nodes x).kind ≡ 2) (count : (node_at nodes x).count ≡ more + 1) (few : more < 2) where
-  pub place-counted : (node_at nodes x).table < 12 * more + 4 → get_or nodes (x * 9 + 7) 0 < x + 2 → get_or nodes (x * 9 + 7 + more) 0 < x + 2
-      → (v w : ℕ) → v ≡ signal_value s (wire_of (get_or nodes (x * 9 + 7) 0)) → w ≡ signal_value s (wire_of (get_or nodes (x * 9 + 7 + more) 0)) → PlaceOf x (node_at nodes x) s (9 * (node_at nodes x).table + 3 * (more * v) + w)
-  place-counted t f l v w a b = go (last_word nodes (x * 9) more few)
-    where
-      place : (m : ℕ) → more ≡ m → 9 * (node_at nodes x).table + 3 * (more * v) + w ≡ 9 * (node_at nodes x).table + 3 * (m * v) + w
-      place m e = ap (λ (i : ℕ). 9 * (node_at nodes x).table + 3 * (i * v) + w) e
+module _ (x : ℕ) (n : BoolNode) (s : List ℕ) (g : Graded s) (table first second : ℕ) where
+  pub place_one_wire : OneWire x n s table first second → PlaceOf x n s (9 * table + 3 * first + second)
+  place_one_wire w =
+      let z : 9 * n.table + second ≡ 9 * table + 3 * first + second = omega (arith, w.by_table, w.none) in
+      subst (PlaceOf x n s) z (place-one x n s g w.kind second w.value w.earlier w.count (omega (arith, w.small, w.by_table)))
 
-      same : (word : ℕ) → get_or nodes (x * 9 + 7 + more) 0 ≡ word → w ≡ signal_value s (wire_of word)
-      same word e = b ∙ ap (λ (i : ℕ). signal_value s (wire_of i)) e
-
-      go : LastWord nodes (x * 9) more → PlaceOf x (node_at nodes x) s (9 * (node_at nodes x).table + 3 * (more * v) + w)
-      go (inl e) =
-          let first = get_or nodes (x * 9 + 7) 0 in
-          let i : 9 * (node_at nodes x).table + 3 * (0 * v) + w ≡ 9 * (node_at nodes x).table + w = omega arith in
-          subst (PlaceOf x (node_at nodes x) s) (sym (place 0 e.0 ∙ i))
-          (place-one x (node_at nodes x) s g kind w (same first e.1) (word_behind x first f) (omega (arith, count, e.0)) (omega (arith, t, e.0)))
-      go (inr e) =
-          let first = get_or nodes (x * 9 + 7) 0 in
-          let second = get_or nodes (x * 9 + 8) 0 in
-          let i : 9 * (node_at nodes x).table + 3 * (1 * v) + w ≡ 9 * (node_at nodes x).table + 3 * v + w = omega arith in
-          subst (PlaceOf x (node_at nodes x) s) (sym (place 1 e.0 ∙ i))
-          (place_two x (node_at nodes x) s g kind v a (word_behind x first f) (omega (arith, count, e.0)) (omega (arith, t, e.0)) w (same second e.1) (word_behind x second (omega (arith, l, e.1))))
+  pub place_two_wires : TwoWires x n s table first second → PlaceOf x n s (9 * table + 3 * first + second)
+  place_two_wires w =
+      let z : 9 * n.table + 3 * first + second ≡ 9 * table + 3 * first + second = omega (arith, w.by_table) in
+      subst (PlaceOf x n s) z (place_two x n s g w.kind first w.first_value w.first_earlier w.count (omega (arith, w.small, w.by_table)) second w.second_value w.second_earlier)

@@ -9,7 +9,8 @@ use lib.Dec.{eqb}
 use borrow.Author.Tests.{eqb-true, eqb-false, ne_eqb}
 use lib.ListN.{length, get_or, set, length-set}
 use lib.Seq.{get_or-set_same, get_or-set_other}
-use Rattle.laws.proofs.Tests.{clash, true_of, cond-true, cond-false}
+use Rattle.std.proofs.lemmas.Bool.{cond-false, cond-true, true_from_ne_false}
+use Rattle.laws.proofs.Tests.{clash}
 use Rattle.circuit.specs.declared.records.BoolNode.{BoolNode}
 use Rattle.circuit.specs.Records.{node_at, nodes_of, is_cell_node}
 use Rattle.runs.specs.Runs.{put_in, input_count}
@@ -24,7 +25,7 @@ unfolding input_count
 none_first n ns e = (q, sym (cond-true (is_cell_node n) (input_count ns) (suc (input_count ns)) q) ∙ e)
   where
     q : is_cell_node n ≡ true
-    q = true_of (is_cell_node n) (λ t. let z : suc (input_count ns) ≡ 0 = sym (cond-false (is_cell_node n) (input_count ns) (suc (input_count ns)) t) ∙ e in omega (arith, z))
+    q = true_from_ne_false (is_cell_node n) (λ t. let z : suc (input_count ns) ≡ 0 = sym (cond-false (is_cell_node n) (input_count ns) (suc (input_count ns)) t) ∙ e in omega (arith, z))
 
 put_none : (a : List ℕ) (ns : List BoolNode) (p k : ℕ) (s : List ℕ) → input_count ns ≡ 0 → put_in a p k s ns ≡ s
 unfolding put_in
@@ -125,7 +126,7 @@ module _ (nodes : List ℕ) (count : ℕ) (assignment before : List ℕ) where
           cell : Passing nodes count assignment → eqb (node_at nodes k).kind 2 ≡ true
           cell b =
               let c = accepted_at nodes count (record { room = a.room; accepted = b.accepted }) k h in
-              true_of (eqb (node_at nodes k).kind 2) (λ q. clash (sym (kind_broken k (node_at nodes k) none (eqb-false (node_at nodes k).kind 2 q))) (sym (none_broken k (node_at nodes k) c.rules c.earlier)))
+              true_from_ne_false (eqb (node_at nodes k).kind 2) (λ q. clash (sym (kind_broken k (node_at nodes k) none (eqb-false (node_at nodes k).kind 2 q))) (sym (none_broken k (node_at nodes k) c.rules c.earlier)))
 
       pub put_next : (r : ℕ) (after : List ℕ) → Putting (is_input_at nodes k) k assignment p s r after → Put (k + 1) r after
       put_next r after e = go (is_input_at nodes k) refl

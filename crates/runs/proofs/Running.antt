@@ -8,8 +8,8 @@ use Prim.Native.Nat.{ℕ, zero, suc, ◌+◌, ◌*◌, ◌/◌, ◌<◌, ◌≤�
 use native.Mathlib.Omega.{arith}
 use lib.Dec.{eqb, ltb}
 use lib.ListN.{length, get_or, replicate, length-replicate, get_or-replicate}
+use Rattle.std.proofs.lemmas.Bool.{and_parts}
 use Rattle.laws.specs.Lists.{some}
-use Rattle.laws.proofs.Tests.{and-true}
 use Rattle.circuit.specs.declared.refusals.Refusal.TheVariants.{Broken}
 use Rattle.circuit.specs.Refusals.{refuse_if}
 use Rattle.circuit.specs.Records.{nodes_of}
@@ -23,7 +23,7 @@ use Rattle.runs.specs.Work.{Tells, Prepared, Passing, mark_count, Puttable, Inpu
 use Rattle.runs.specs.Steps.{Standing, Through, Walked}
 use Rattle.runs.specs.Calls.{run_fault}
 use Rattle.runs.proofs.Along.{along}
-use Rattle.runs.proofs.Calls.{inputs-fit, list_fit, run-fit, runs_of, cells-of}
+use Rattle.runs.proofs.Calls.{inputs-fit, list_fit, well_assigned, run-fit, runs_of, cells-of}
 use Rattle.runs.proofs.Passing.{passing_checked, passing_assigned, passing_room, prepared_of, passing_of}
 use Rattle.runs.proofs.Evaluating.{assigned_below}
 use Rattle.runs.proofs.Marks.{marks_passing}
@@ -82,7 +82,7 @@ module _ (nodes outputs order assignment : List ℕ) (store answers : ℕ) where
 
     pub run_sound : run_fault nodes outputs order assignment store answers ≡ Ok tt
     run_sound =
-        sym (run-fit nodes outputs order assignment store answers (passing_checked 2 nodes outputs assignment store answers a b) (passing_assigned 2 nodes outputs assignment store answers a b) fits)
+        sym (run-fit nodes outputs order assignment store answers (sym (well_assigned 2 nodes outputs assignment (passing_checked 2 nodes outputs assignment store answers a b) (passing_assigned 2 nodes outputs assignment store answers a b))) fits)
         ∙ passing_room 2 nodes outputs assignment store answers a b
 
     pub run_gives : (values old : List ℕ) → Standing (nodes_in nodes) assignment order values → length nodes / 9 ≤ length old
@@ -105,4 +105,4 @@ module _ (nodes outputs order assignment : List ℕ) (store answers : ℕ) where
     unfolding fit_list
     run_passing =
         let r = runs_of nodes outputs order assignment store answers e in
-        (passing_of 2 nodes outputs assignment store answers r.checks r.inputs, (and-true (fit (graph_of (nodes_in nodes)) [] order) (eqb (length order) (length (cells_of (graph_of (nodes_in nodes))))) r.fits).0)
+        (passing_of 2 nodes outputs assignment store answers r.checks r.inputs, (and_parts (fit (graph_of (nodes_in nodes)) [] order) (eqb (length order) (length (cells_of (graph_of (nodes_in nodes))))) r.fits).0)

@@ -12,9 +12,10 @@ use lib.Dec.{eqb, ltb}
 use borrow.Author.Tests.{eqb-true, eqb-false, ltb-false, le-ltb}
 use lib.ListN.{length, get_or, set, take, drop, replicate, length-set, length-replicate, get_or-replicate, drop_of_length-le, take-append-drop}
 use lib.Seq.{drop-cons, get_or-set_same, get_or-set_other}
+use Rattle.std.proofs.lemmas.Bool.{and_parts, false_from_ne_true, or_parts, true_from_ne_false}
 use Rattle.laws.specs.Lists.{elem, some}
 use Rattle.laws.proofs.Lists.{elem_here, elem-later, elem-cons-split, elem_snoc_same, elem_snoc_other}
-use Rattle.laws.proofs.Tests.{neither, clash, true_of, false_of, and-true}
+use Rattle.laws.proofs.Tests.{clash}
 use Rattle.laws.proofs.Filling.{cond_both, take_next}
 use Rattle.circuit.specs.declared.records.BoolWire.{BoolWire}
 use Rattle.circuit.specs.declared.records.BoolWire.TheVariants.{Const, Node}
@@ -128,11 +129,11 @@ module _ (nodes : List ℕ) (count : ℕ) (ok : Accepted nodes count) (assignmen
       read_small : (ws : List BoolWire) → some (marked s) ws ≡ false → (y : ℕ) → elem y (nodes_read ws) ≡ true → get_or s y 0 < 3
       unfolding nodes_read
       read_small [] e y m = absurd (clash m refl)
-      read_small (Const b ∷ ws) e y m = read_small ws (neither (marked s (Const b)) (some (marked s) ws) e).1 y m
+      read_small (Const b ∷ ws) e y m = read_small ws (or_parts (marked s (Const b)) (some (marked s) ws) e).1 y m
       read_small (Node n ∷ ws) e y m = go (elem-cons-split y n.0 (nodes_read ws) m) (read_small ws g.1 y)
         where
           g : (marked s (Node n) ≡ false) × (some (marked s) ws ≡ false)
-          g = neither (marked s (Node n)) (some (marked s) ws) e
+          g = or_parts (marked s (Node n)) (some (marked s) ws) e
 
           go : (y ≡ n.0) ⊎ (elem y (nodes_read ws) ≡ true) → (elem y (nodes_read ws) ≡ true → get_or s y 0 < 3) → get_or s y 0 < 3
           go (inl q) below = subst (λ (i : ℕ). get_or s i 0 < 3) (sym q) (omega (arith, ltb-false 2 (get_or s n.0 0) g.0))
@@ -148,12 +149,12 @@ module _ (nodes : List ℕ) (count : ℕ) (ok : Accepted nodes count) (assignmen
 
       pub turn_ready : x < count → Turn nodes s x → ready graph taken x ≡ true
       turn_ready h t =
-          ready_makes graph taken x (true_of (waits graph taken x) (λ w. omega (arith, unmarked x h w, t.waiting)))
+          ready_makes graph taken x (true_from_ne_false (waits graph taken x) (λ w. omega (arith, unmarked x h w, t.waiting)))
           (free_makes graph taken (reads_of graph x) (λ y m. free y (ap (elem y) (sym (reads-of h)) ∙ m)))
         where
           free : (y : ℕ) → elem y (nodes_read (wires_of (node_at nodes x))) ≡ true → waits graph taken y ≡ false
           free y m =
-              false_of (waits graph taken y)
+              false_from_ne_true (waits graph taken y)
               (λ w. omega (arith, st.waiting y (omega (arith, inside h y m, size)) w, read_small (wires_of (node_at nodes x)) t.ready.supplied y m))
 
       ready_turn : ready graph taken x ≡ true → (x < count) × Turn nodes s x
@@ -227,12 +228,12 @@ pub next_turn : (nodes : List ℕ) (count : ℕ) → Accepted nodes count → (a
 next_turn nodes count ok assignment order i h s st f =
     let g = graph_of (nodes_of nodes count) in
     ready_turn nodes count ok assignment (take i order) s st (get_or order i 0)
-    (and-true (ready g (take i order) (get_or order i 0)) (fit g (take (i + 1) order) (drop (i + 1) order)) (sym (list_turn g order i h) ∙ f)).0
+    (and_parts (ready g (take i order) (get_or order i 0)) (fit g (take (i + 1) order) (drop (i + 1) order)) (sym (list_turn g order i h) ∙ f)).0
 
 -- a step keeps the marks great
-pub steppable_next : (nodes : List ℕ) (count : ℕ) (s : List ℕ) (x : ℕ) (after : List ℕ) → Steppable nodes count s → x < count → Stepped nodes x s after → Steppable nodes count after
+pub steppable_next : (nodes : List ℕ) (count : ℕ) (s : List ℕ) (x : ℕ) (after : List ℕ) → Steppable count s → x < count → Stepped nodes x s after → Steppable count after
 steppable_next nodes count s x after p h e =
-    record { room = p.room; stored = omega (arith, p.stored, ap length e.stored, length-set s x (answer_of s (node_at nodes x))); graded = at }
+    record { stored = omega (arith, p.stored, ap length e.stored, length-set s x (answer_of s (node_at nodes x))); graded = at }
   where
     at : (k : ℕ) → 2 < get_or after k 0 → 143 < get_or after k 0
     at k = go (eqb k x) refl
@@ -251,7 +252,7 @@ pub standing_outputs : (ns : List BoolNode) (os : List BoolWire) (assignment ord
     → outputs_from s os ≡ storage_outputs ns os assignment
 unfolding storage_outputs outputs_from fit_list
 standing_outputs ns os assignment order s st f h =
-    let g = and-true (fit (graph_of ns) [] order) (eqb (length order) (length (cells_of (graph_of ns)))) f in
+    let g = and_parts (fit (graph_of ns) [] order) (eqb (length order) (length (cells_of (graph_of ns)))) f in
     let full = eqb-true (length order) (length (cells_of (graph_of ns))) g.1 in
     let done : left (graph_of ns) order ≡ 0 = omega (arith, left_fit (graph_of ns) [] order g.0, left_start (graph_of ns), full) in
     wires_below s (storage_values ns assignment) (length ns) (λ i l. st.right i l (left_none (graph_of ns) order done i)) os h

@@ -10,7 +10,7 @@ use lib.Dec.{ltb}
 use borrow.Author.Tests.{ltb-true, ltb-false, leb-false}
 use lib.ListN.{length, get_or, set, length-set}
 use lib.Seq.{get_or-set_same, get_or-set_other}
-use Rattle.laws.proofs.Tests.{neither}
+use Rattle.std.proofs.lemmas.Bool.{or_parts}
 use Rattle.laws.proofs.Filling.{cond_both, cond_pair, length_snoc, snoc_below, snoc_last, snoc_past}
 use Rattle.circuit.specs.declared.records.BoolWire.{BoolWire}
 use Rattle.circuit.specs.declared.records.BoolWire.TheVariants.{Const, Node}
@@ -136,14 +136,6 @@ outputs_known ns os a h = wires_known (values_from entry_of a 0 [] ns) (values_k
 -- ---- what each node's value is
 
 module _ (a : List ℕ) where
-  pub length-values : (ns : List BoolNode) (p : ℕ) (vs : List ℕ) → length (values_from answer_of a p vs ns) ≡ length vs + length ns
-  unfolding values_from
-  length-values [] p vs = sym (add-zero (length vs))
-  length-values (n ∷ ns) p vs =
-      cond_both (λ (l : List ℕ). length l ≡ length vs + suc (length ns)) (is_cell_node n) _ _
-      (length-values ns p (vs ++ answer_of vs n ∷ []) ∙ omega (arith, length_snoc vs (answer_of vs n)))
-      (length-values ns (suc p) (vs ++ get_or a p 0 ∷ []) ∙ omega (arith, length_snoc vs (get_or a p 0)))
-
   -- values that stand stay
   pub values_stay : (ns : List BoolNode) (p : ℕ) (vs : List ℕ) (k : ℕ) → k < length vs → get_or (values_from answer_of a p vs ns) k 0 ≡ get_or vs k 0
   unfolding values_from
@@ -161,7 +153,7 @@ wire_below s t k e (Node n) g = e n.0 (leb-false k n.0 g)
 pub wires_below : (s t : List ℕ) (k : ℕ) → ((i : ℕ) → i < k → get_or s i 0 ≡ get_or t i 0) → (ws : List BoolWire) → some_not_below k ws ≡ false → map (signal_value s) ws ≡ map (signal_value t) ws
 wires_below s t k e [] h = refl
 wires_below s t k e (w ∷ ws) h =
-    let g = neither (not_below k w) (some_not_below k ws) h in
+    let g = or_parts (not_below k w) (some_not_below k ws) h in
     ap₂ (λ (v : ℕ) (l : List ℕ). v ∷ l) (wire_below s t k e w g.0) (wires_below s t k e ws g.1)
 
 pub answer_below : (s t : List ℕ) (k : ℕ) → ((i : ℕ) → i < k → get_or s i 0 ≡ get_or t i 0) → (n : BoolNode) → some_not_below k (wires_of n) ≡ false → answer_of s n ≡ answer_of t n

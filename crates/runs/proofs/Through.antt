@@ -19,10 +19,6 @@ use Rattle.runs.proofs.Marks.{unmarked_start, unmarked_next}
 use Rattle.runs.proofs.Standing.{next_turn, turn_ready, turn_next, list_turn, list_end, list_whole}
 
 module _ (nodes : List ℕ) (count : ℕ) where
-  -- node k alone
-  pub steppable_one : (s : List ℕ) → Steppable nodes count s → (k : ℕ) → k < count → Steppable nodes (k + 1) s
-  steppable_one s p k h = record { room = omega (arith, h, p.room); stored = omega (arith, h, p.stored); graded = p.graded }
-
   -- ---- from place to place
 
   unmarked_then : (i j : ℕ) (v w z : List ℕ) → Unmarked nodes count i v w → Unmarked nodes count j w z → Unmarked nodes count (i + j) v z
@@ -78,7 +74,7 @@ module _ (nodes : List ℕ) (count : ℕ) where
       abbrev x : ℕ
       x = get_or order i 0
 
-      pub through_step : (after : List ℕ) → Steppable nodes count s → x < count → Turn nodes s x → Stepped nodes x s after → Through nodes count order i (i + 1) s true after
+      pub through_step : (after : List ℕ) → Steppable count s → x < count → Turn nodes s x → Stepped nodes x s after → Through nodes count order i (i + 1) s true after
       through_step after p d t e =
           let n : 0 + 1 ≡ i + 1 - i = omega arith in
           record {

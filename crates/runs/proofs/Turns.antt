@@ -1,8 +1,9 @@
 -- What accepted nodes have, a turn of each loop over nodes, entries and outputs, and what the words of a record say.
 -- Assumes nothing.
+use mir.Val.{bool_byte}
 use mathlib.Core.Path.{◌≡◌, refl, sym, ap, ap₂, ◌∙◌, subst}
 use mathlib.Core.List.{List, [], ◌∷◌, ◌++◌, append_assoc}
-use mathlib.Core.Bool.{Bool, true, false, cond, ◌&&◌}
+use mathlib.Core.Bool.{Bool, true, false, cond, not, ◌&&◌}
 use Prim.Native.Nat.{ℕ, zero, suc, ◌+◌, ◌-◌, ◌*◌, ◌<◌, ◌≤◌}
 use native.Mathlib.Nat.{add-zero, zero-add}
 use native.Mathlib.Numerals.{add-one}
@@ -17,7 +18,7 @@ use Rattle.laws.proofs.Storing.{up_at}
 use Rattle.laws.proofs.Filling.{take_next}
 use Rattle.circuit.specs.declared.records.BoolWire.TheVariants.{Node}
 use Rattle.circuit.specs.declared.records.BoolNode.{BoolNode}
-use Rattle.circuit.specs.Records.{wire_of, node_at, NodeIs, nodes_of, output_wire, output_wires, is_cell_node, no_node, no_wire}
+use Rattle.circuit.specs.Records.{wire_of, node_at, nodes_of, output_wire, output_wires, is_cell_node, no_node, no_wire}
 use Rattle.circuit.specs.Check.{not_below}
 use Rattle.circuit.specs.Graph.{Vertex, graph_of, is_cell, cells_of}
 use Rattle.circuit.proofs.Codes.{wire_of_node, node_of, length_nodes, length_output_wires}
@@ -89,6 +90,11 @@ module _ (nodes : List ℕ) (count : ℕ) where
     pub same_turn : (p r size : ℕ) → p + input_count (from k) ≡ size → r ≡ cond (is_cell_node (node_at nodes k)) p (p + 1) → r + input_count (from (k + 1)) ≡ size
     same_turn p r size l e = omega (arith, count_turn, e ∙ cond-number (is_cell_node (node_at nodes k)) p)
 
+-- a test as a number
+pub byte_not : (b : Bool) → bool_byte (not b) ≡ cond b 0 1
+byte_not true = refl
+byte_not false = refl
+
 pub cond_small : (b : Bool) → cond b 0 1 ≤ 1
 cond_small true = omega arith
 cond_small false = omega arith
@@ -138,9 +144,6 @@ module _ (values outputs : List ℕ) (count : ℕ) where
 
 pub kind_word : (nodes : List ℕ) (k : ℕ) → (node_at nodes k).kind ≡ get_or nodes (k * 9) 0
 kind_word nodes k = ap (λ (j : ℕ). get_or nodes j 0) (add-zero (k * 9))
-
-pub node_at_is : (nodes : List ℕ) (k : ℕ) → NodeIs nodes (k * 9) (node_at nodes k)
-node_at_is nodes k = record { kind_is = kind_word nodes k; count_is = refl; table_is = refl; name_is = refl; first_is = refl; second_is = refl }
 
 pub word_cell : (nodes : List ℕ) (k : ℕ) → get_or nodes (k * 9) 0 ≡ 2 → is_cell_node (node_at nodes k) ≡ true
 unfolding is_cell_node

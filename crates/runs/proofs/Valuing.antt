@@ -108,33 +108,6 @@ module _ (nodes : List ℕ) (count : ℕ) (before : List ℕ) where
             go true q = subst (λ (j : ℕ). get_or after j 0 ≡ get_or (storage_values (nodes_of nodes count) a) j 0) (sym (eqb-true i k q)) (last (is_cell_node (node_at nodes k)) refl)
             go false q = let d = eqb-false i k q in stays i d ∙ w.right a u i (omega (arith, g, d))
 
--- ---- the loop from one node up to another
-
--- node k is next, whatever store the loop began with
-pub record Going (nodes : List ℕ) (from end : ℕ) (values : List ℕ) (k : ℕ) (s : List ℕ) : Type 0 where
-  pub inside : k ≤ end
-  pub kept : length s ≡ length values
-  pub known : (i : ℕ) → i < k → get_or s i 0 < 2
-  pub worked : (count : ℕ) (old : List ℕ) → end ≤ count → count ≤ length old → Worked nodes count old from values → Worked nodes count old k s
-
-module _ (nodes : List ℕ) (from end : ℕ) (values : List ℕ) where
-  pub going_start : from ≤ end → ((i : ℕ) → i < from → get_or values i 0 < 2) → Going nodes from end values from values
-  going_start l known = record { inside = l; kept = refl; known = known; worked = λ count old i r w. w }
-
-  module _ (k : ℕ) (s : List ℕ) (g : Going nodes from end values k s) (h : k < end) where
-    pub going_next : (after : List ℕ) → Settled nodes k s → Valued nodes k s after → Going nodes from end values (k + 1) after
-    going_next after t e =
-        record {
-          inside = omega (arith, h);
-          kept = valued_size nodes k s after e ∙ g.kept;
-          known = valued_known nodes k s after e g.known;
-          worked = λ count old i r w. worked_next nodes count old r k s (g.worked count old i r w) (omega (arith, h, i)) after t e;
-        }
-
-    -- a node that is not settled is of no circuit
-    pub going_fails : (Settled nodes k s → ⊥) → (count : ℕ) (old : List ℕ) → end ≤ count → count ≤ length old → Worked nodes count old from values → Fails nodes count old
-    going_fails n count old i r w a b = n (worked_fails nodes count old r k s (g.worked count old i r w) (omega (arith, h, i)) a b)
-
 -- what the loop over a store of marks and inputs tells: all is right just where the nodes pass
 pub values_tell : (nodes : List ℕ) (count : ℕ) (assignment : List ℕ) (n : ℕ) (old : List ℕ) → count * 9 ≤ length nodes → old ≡ replicate n 144 → count ≤ n → some (ltb 1) assignment ≡ false
     → (mid after : List ℕ) (r : Bool) → InputsIn nodes count assignment mid → (Passing nodes count assignment → mid ≡ put_in assignment 0 0 old (nodes_of nodes count))

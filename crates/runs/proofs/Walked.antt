@@ -17,7 +17,7 @@ use Rattle.runs.proofs.Standing.{steppable_next}
 use Rattle.runs.proofs.Through.{through_none, through_then, through_is, through_stopped, through_step, through_denied}
 
 module _ (nodes : List ℕ) (count : ℕ) (order : List ℕ) where
-  pub walked_none : (i : ℕ) (s : List ℕ) → Steppable nodes count s → Walked nodes count order i i s s
+  pub walked_none : (i : ℕ) (s : List ℕ) → Steppable count s → Walked nodes count order i i s s
   walked_none i s p = record { steppable = p; waited = true; through = through_none nodes count order i s; over = λ e. absurd (true≢false e) }
 
   -- no more marks less than steps
@@ -62,7 +62,7 @@ module _ (nodes : List ℕ) (count : ℕ) (order : List ℕ) where
             over = λ f. omega (arith, p.over d, most j k w z q);
           }
 
-  module _ (i : ℕ) (h : i < length order) (s after : List ℕ) (p : Steppable nodes count s) (d : get_or order i 0 < count) (r : Ready (get_or order i 0) (node_at nodes (get_or order i 0)) s) (e : Stepped nodes (get_or order i 0) s after) where
+  module _ (i : ℕ) (h : i < length order) (s after : List ℕ) (p : Steppable count s) (d : get_or order i 0 < count) (r : Ready (get_or order i 0) (node_at nodes (get_or order i 0)) s) (e : Stepped nodes (get_or order i 0) s after) where
     -- one entry whose cell was ready
     pub walked_step : Walked nodes count order i (i + 1) s after
     walked_step = go (ltb 2 (get_or s (get_or order i 0) 0)) refl

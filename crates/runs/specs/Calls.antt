@@ -14,6 +14,10 @@ use Rattle.runs.specs.Runs.{run_outputs, input_count, wrong_assignment, numbered
 unfoldable pub assignment_fault : ℕ → List ℕ → List ℕ → Checked
 assignment_fault top nodes assignment = refuse_if (wrong_assignment top (nodes_in nodes) assignment) WrongValues
 
+-- "15, 16, 19": what the refusals of both calls begin with
+abbrev pub assigned_fault : ℕ → List ℕ → List ℕ → List ℕ → Checked
+assigned_fault top nodes outputs assignment = first_fault (topological_fault nodes outputs) (assignment_fault top nodes assignment)
+
 -- "20 (not each cell once after those it reads)"
 unfoldable pub order_fault : List ℕ → List ℕ → Checked
 order_fault nodes order = refuse_if (not (fit_list (graph_of (nodes_in nodes)) order)) UnfitOrder

@@ -1,6 +1,6 @@
 -- A step of a run, and the store along a list.
 -- Assumes nothing.
-use Rattle.std.specs.Prelude.{◌≡◌, List, Bool, true, false, ℕ, ◌+◌, ◌-◌, ◌*◌, ◌<◌, ◌≤◌, ltb, length, get_or, set, take, drop}
+use Rattle.std.specs.Prelude.{◌≡◌, List, Bool, true, false, ℕ, ◌+◌, ◌-◌, ◌<◌, ◌≤◌, ltb, length, get_or, set, take, drop}
 use Rattle.laws.specs.Lists.{some}
 use Rattle.circuit.specs.declared.records.BoolWire.{BoolWire}
 use Rattle.circuit.specs.declared.records.BoolNode.{BoolNode}
@@ -28,9 +28,8 @@ pub record PlaceOf (x : ℕ) (n : BoolNode) (values : List ℕ) (r : ℕ) : Type
   pub answer : r < 144 → (answers : List ℕ) → AnswerTable answers → get_or answers r 0 ≡ answer_of values n
   pub missed : 144 ≤ r → Ready x n values → ⊥
 
--- records and a store for so many nodes
-pub record Steppable (nodes : List ℕ) (count : ℕ) (values : List ℕ) : Type 0 where
-  pub room : count * 9 ≤ length nodes
+-- a store for so many nodes
+pub record Steppable (count : ℕ) (values : List ℕ) : Type 0 where
   pub stored : count ≤ length values
   pub graded : Graded values
 
@@ -69,7 +68,7 @@ pub record Through (nodes : List ℕ) (count : ℕ) (order : List ℕ) (from end
 
 -- what the steps leave where each entry's cell was ready, whether it waited or not: where all waited, a mark less for each; else marks are left over, and the list is not fit
 pub record Walked (nodes : List ℕ) (count : ℕ) (order : List ℕ) (from end : ℕ) (values after : List ℕ) : Type 0 where
-  pub steppable : Steppable nodes count after
+  pub steppable : Steppable count after
   pub waited : Bool
   pub through : Through nodes count order from end values waited after
   pub over : waited ≡ false → mark_count count values < mark_count count after + (end - from)

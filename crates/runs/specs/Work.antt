@@ -4,8 +4,8 @@ use Rattle.std.specs.Prelude.{◌≡◌, List, Bool, true, false, cond, ℕ, zer
 use Rattle.laws.specs.Lists.{some}
 use Rattle.circuit.specs.declared.records.BoolNode.{BoolNode}
 use Rattle.circuit.specs.Records.{node_at, nodes_of, is_cell_node}
-use Rattle.circuit.specs.Check.{some_not_below, check_nodes, node_broken, wires_in}
-use Rattle.runs.specs.Values.{entry_of}
+use Rattle.circuit.specs.Check.{not_below, some_not_below, check_nodes, node_broken, wires_in}
+use Rattle.runs.specs.Values.{signal_value, entry_of}
 use Rattle.runs.specs.Runs.{input_count}
 
 -- what a test's answer tells of a claim
@@ -68,11 +68,31 @@ pub record BothEarlier (nodes : List ℕ) (k : ℕ) : Type 0 where
   pub first : EarlierNode k (get_or nodes (k * 9 + 7) 0)
   pub second : EarlierNode k (get_or nodes (k * 9 + 8) 0)
 
+-- a cell with one wire, of an earlier node or a constant: its table, 0, and the value of the wire
+pub record OneWire (k : ℕ) (n : BoolNode) (values : List ℕ) (table first second : ℕ) : Type 0 where
+  pub kind : n.kind ≡ 2
+  pub count : n.count ≡ 1
+  pub by_table : table ≡ n.table
+  pub small : table < 4
+  pub none : first ≡ 0
+  pub value : second ≡ signal_value values n.first
+  pub earlier : not_below k n.first ≡ false
+
+-- a cell with two such wires
+pub record TwoWires (k : ℕ) (n : BoolNode) (values : List ℕ) (table first second : ℕ) : Type 0 where
+  pub kind : n.kind ≡ 2
+  pub count : n.count ≡ 2
+  pub by_table : table ≡ n.table
+  pub small : table < 16
+  pub first_value : first ≡ signal_value values n.first
+  pub first_earlier : not_below k n.first ≡ false
+  pub second_value : second ≡ signal_value values n.second
+  pub second_earlier : not_below k n.second ≡ false
+
 -- ---- `evaluate`
 
 -- node k is next in storage order: the nodes before it have their values
-pub record Next (nodes : List ℕ) (k : ℕ) (values : List ℕ) : Type 0 where
-  pub inside : k * 9 + 9 ≤ length nodes
+pub record Next (k : ℕ) (values : List ℕ) : Type 0 where
   pub stored : k < length values
   pub known : (i : ℕ) → i < k → get_or values i 0 < 2
 

@@ -3,16 +3,18 @@
 ghost use Rattle.std.specs.Prelude.{◌≡◌, true, false, ℕ, ◌+◌, ◌-◌, ◌*◌, ◌^◌, ◌<◌, ◌≤◌, ltb, length, get_or};
 ghost use Rattle.circuit.specs.Records.{node_at};
 
+use circuit::nodes::Nodes;
+
 // How many wires a cell has is likely guessed right by a processor: few cells it learns in earlier calls, and of many, 32 that stand evenly apart have not one wire.
-pub fn counts_guessed(nodes: &[usize], count: usize) -> bool
-    requires { count * 9 ≤ length nodes.now }
-    ensures { result ≡ false → (k : ℕ) × (k < count) × ((node_at nodes.now k).count ≡ 1) }
+pub fn counts_guessed(nodes: Nodes) -> bool
+    ensures { result ≡ false → (k : ℕ) × (k < nodes.entry.count) × ((node_at nodes.entry.words.now k).count ≡ 1) }
 {
-    if count <= 4096 {
+    if nodes.count <= 4096 {
         return true;
     }
-    for k in (0..count).step_by(count / 32) {
-        if nodes[k * 9 + 1] == 1 {
+    // No `any`: std has no lemma on what `step_by` hands to it, so that the promise stayed open.
+    for k in (0..nodes.count).step_by(nodes.count / 32) {
+        if nodes.words[k * 9 + 1] == 1 {
             return false;
         }
     }
@@ -69,20 +71,21 @@ pub fn front(order: &[usize], from: usize, end: usize, count: usize, lead: usize
     ensures { result ≤ count }
 {
     let mut top = lead;
-    for i in (from..end).step_by(8) {
-        top = further(top, order[i], count);
+    for x in order[from..end].iter().step_by(8) {
+        top = further(top, *x, count);
     }
     top
 }
 
 // The first and the last words of the records from one number up to another are small, as those of a circuit are. Every line of a cache that has a record has one of the two words.
-pub fn words_small(nodes: &[usize], from: usize, end: usize) -> bool
-    requires { end * 9 ≤ length nodes.now }
-    ensures { result ≡ true → (k : ℕ) → from ≤ k → k < end → (get_or nodes.now (k * 9) 0 < 2 ^ 32) × (get_or nodes.now (k * 9 + 8) 0 < 2 ^ 32) }
+// By number, since two words of each record are looked at, and no more.
+pub fn words_small(nodes: Nodes, from: usize, end: usize) -> bool
+    requires { end ≤ nodes.count }
+    ensures { result ≡ true → (k : ℕ) → from ≤ k → k < end → (get_or nodes.entry.words.now (k * 9) 0 < 2 ^ 32) × (get_or nodes.entry.words.now (k * 9 + 8) 0 < 2 ^ 32) }
 {
     let mut high = 0;
     for k in from..end {
-        high |= (nodes[k * 9] | nodes[k * 9 + 8]) >> 32;
+        high |= (nodes.words[k * 9] | nodes.words[k * 9 + 8]) >> 32;
     }
     high == 0
 }
@@ -98,27 +101,20 @@ pub fn in_sequence(order: &[usize], from: usize, end: usize) -> bool
 }
 
 // The number of nodes looked at once those that a stretch reaches are; all where one of them has words of no circuit, so that no more is looked at.
-pub fn look_ahead(
-    nodes: &[usize],
-    count: usize,
-    order: &[usize],
-    from: usize,
-    end: usize,
-    lead: usize,
-) -> usize
-    requires { (count * 9 ≤ length nodes.now) × (from < end) × (end ≤ length order.now) × (lead ≤ count) }
-    ensures { result ≤ count }
+pub fn look_ahead(nodes: Nodes, order: &[usize], from: usize, end: usize, lead: usize) -> usize
+    requires { (from < end) × (end ≤ length order.now) × (lead ≤ nodes.count) }
+    ensures { result ≤ nodes.entry.count }
 {
-    if lead == count {
-        return count;
+    if lead == nodes.count {
+        return lead;
     }
     if in_sequence(order, from, end) {
-        return further(lead, order[end - 1], count);
+        return further(lead, order[end - 1], nodes.count);
     }
-    let top = front(order, from, end, count, lead);
+    let top = front(order, from, end, nodes.count, lead);
     if words_small(nodes, lead, top) {
         top
     } else {
-        count
+        nodes.count
     }
 }

@@ -1,5 +1,5 @@
 // Fitness of an order list (20), by marks for a block of nodes at a time.
-ghost use Rattle.std.specs.Prelude.{◌≡◌, false, [], ◌+◌, ◌*◌, ◌<◌, ◌≤◌, length};
+ghost use Rattle.std.specs.Prelude.{◌≡◌, false, [], ◌+◌, ◌*◌, ◌<◌, ◌≤◌, length, is_some};
 ghost use Rattle.circuit.specs.Records.{wires_of, nodes_of};
 ghost use Rattle.circuit.specs.Check.{not_below, some_not_below};
 ghost use Rattle.circuit.specs.Graph.{graph_of, fit, fit_list};
@@ -7,12 +7,13 @@ ghost use Rattle.runs.specs.Runs.{input_count};
 ghost use Rattle.runs.specs.Fit.{within, block_size, fit_in, Marks, waits_here, wire_waits, some_waits, Accepted, Marking, Entering};
 
 use cells::{set_table_entry, table_entry};
-use circuit::records::{BoolNode, BoolWire, node_at, wire_at, wire_count};
+use circuit::nodes::Nodes;
+use circuit::records::{BoolNode, BoolWire, wire_at, wire_count};
 
 // The node is a cell of the block from lo on with no mark.
-pub fn waits_here(nodes: &[usize], k: usize, lo: usize, marks: &[usize]) -> bool
-    requires { k * 9 + 9 ≤ length nodes.now }
-    ensures { result ≡ waits_here nodes.now lo marks.now k }
+pub fn waits_here(nodes: Nodes, k: usize, lo: usize, marks: &[usize]) -> bool
+    requires { k < nodes.count }
+    ensures { result ≡ waits_here nodes.entry.words.now lo marks.now k }
 {
     if k < lo {
         return false;
@@ -22,13 +23,13 @@ pub fn waits_here(nodes: &[usize], k: usize, lo: usize, marks: &[usize]) -> bool
     if marks.len() <= w {
         return false;
     }
-    table_entry(marks[w], i % 64) == 0 && nodes[k * 9] == 2
+    table_entry(marks[w], i % 64) == 0 && nodes.words[k * 9] == 2
 }
 
 // The wire is of such a node.
-pub fn wire_waits(nodes: &[usize], count: usize, w: BoolWire, lo: usize, marks: &[usize]) -> bool
-    requires { (count * 9 ≤ length nodes.now) × (not_below count w ≡ false) }
-    ensures { result ≡ wire_waits nodes.now lo marks.now w }
+pub fn wire_waits(nodes: Nodes, w: BoolWire, lo: usize, marks: &[usize]) -> bool
+    requires { not_below nodes.count w ≡ false }
+    ensures { result ≡ wire_waits nodes.entry.words.now lo marks.now w }
 {
     match w {
         BoolWire::Const(_) => false,
@@ -37,126 +38,111 @@ pub fn wire_waits(nodes: &[usize], count: usize, w: BoolWire, lo: usize, marks: 
 }
 
 // Some wire of the cell is.
-pub fn some_waits(nodes: &[usize], count: usize, n: BoolNode, lo: usize, marks: &[usize]) -> bool
-    requires { (count * 9 ≤ length nodes.now) × (some_not_below count (wires_of n) ≡ false) }
-    ensures { result ≡ some_waits nodes.now lo marks.now (wires_of n) }
+pub fn some_waits(nodes: Nodes, n: BoolNode, lo: usize, marks: &[usize]) -> bool
+    requires { some_not_below nodes.count (wires_of n) ≡ false }
+    ensures { result ≡ some_waits nodes.entry.words.now lo marks.now (wires_of n) }
 {
+    // No `any`: that its closure may call `wire_waits` for each number stayed open in the proof.
     for k in 0..wire_count(n) {
         let w = wire_at(n, k);
-        if wire_waits(nodes, count, w, lo, marks) {
+        if wire_waits(nodes, w, lo, marks) {
             return true;
         }
     }
     false
 }
 
-// The number's mark is set, if it is of the block; false if it was set before.
-pub fn mark(x: usize, lo: usize, marks: &mut [usize]) -> bool
-    ensures { Marking lo marks.old x result marks.new }
+// The number's mark is set, if it is of the block; None if it was set before.
+pub fn mark(x: usize, lo: usize, marks: &mut [usize]) -> Option<()>
+    ensures { Marking lo marks.old x (is_some result) marks.new }
 {
     if x < lo {
-        return true;
+        return Some(());
     }
     let i = x - lo;
     let w = i / 64;
     if marks.len() <= w {
-        return true;
+        return Some(());
     }
     let j = i % 64;
     if table_entry(marks[w], j) != 0 {
-        return false;
+        return None;
     }
     marks[w] = set_table_entry(marks[w], j, 1);
-    true
+    Some(())
 }
 
 // One entry: it may stand here, as far as the block tells, and is marked.
-pub fn fit_entry(nodes: &[usize], count: usize, x: usize, lo: usize, marks: &mut [usize]) -> bool
-    requires { Accepted nodes.now count }
-    ensures { Entering nodes.now count x lo marks.old result marks.new }
+pub fn fit_entry(nodes: Nodes, x: usize, lo: usize, marks: &mut [usize]) -> Option<()>
+    requires { Accepted nodes.words.now nodes.count }
+    ensures { Entering nodes.entry.words.now nodes.entry.count x lo marks.old (is_some result) marks.new }
 {
-    if count <= x {
-        return false;
+    if nodes.count <= x {
+        return None;
     }
-    let n = node_at(nodes, x);
-    if n.kind != 2 || some_waits(nodes, count, n, lo, marks) {
-        return false;
+    let n = nodes.at(x);
+    if n.kind != 2 || some_waits(nodes, n, lo, marks) {
+        return None;
     }
     mark(x, lo, marks)
 }
 
 // One pass over the list for the block.
-pub fn fit_pass(
-    nodes: &[usize],
-    count: usize,
-    order: &[usize],
-    lo: usize,
-    marks: &mut [usize],
-) -> bool
-    requires { Accepted nodes.now count × Marks lo marks.old [] }
-    ensures { result ≡ fit_in (within lo (block_size marks.old)) (graph_of (nodes_of nodes.now count)) [] order.now }
+pub fn fit_pass(nodes: Nodes, order: &[usize], lo: usize, marks: &mut [usize]) -> Option<()>
+    requires { Accepted nodes.words.now nodes.count × Marks lo marks.old [] }
+    ensures { is_some result ≡ fit_in (within lo (block_size marks.old)) (graph_of (nodes_of nodes.entry.words.now nodes.entry.count)) [] order.now }
 {
     for x in order {
-        if !fit_entry(nodes, count, *x, lo, marks) {
-            return false;
-        }
+        fit_entry(nodes, *x, lo, marks)?;
     }
-    true
+    Some(())
 }
 
-pub fn fit_block(
-    nodes: &[usize],
-    count: usize,
-    order: &[usize],
-    lo: usize,
-    marks: &mut [usize],
-) -> bool
-    requires { Accepted nodes.now count }
-    ensures { result ≡ fit_in (within lo (block_size marks.old)) (graph_of (nodes_of nodes.now count)) [] order.now }
+pub fn fit_block(nodes: Nodes, order: &[usize], lo: usize, marks: &mut [usize]) -> Option<()>
+    requires { Accepted nodes.words.now nodes.count }
+    ensures { is_some result ≡ fit_in (within lo (block_size marks.old)) (graph_of (nodes_of nodes.entry.words.now nodes.entry.count)) [] order.now }
 {
     marks.fill(0);
-    fit_pass(nodes, count, order, lo, marks)
+    fit_pass(nodes, order, lo, marks)
 }
 
 // A block after the other, a pass over the list for each.
-pub fn fit_blocks(nodes: &[usize], count: usize, order: &[usize], marks: &mut [usize]) -> bool
-    requires { Accepted nodes.now count × (length order.now ≤ count) × (0 < length marks.old) × (length marks.old ≤ 16384) }
-    ensures { result ≡ fit (graph_of (nodes_of nodes.now count)) [] order.now }
+pub fn fit_blocks(nodes: Nodes, order: &[usize], marks: &mut [usize]) -> Option<()>
+    requires { Accepted nodes.words.now nodes.count × (length order.now ≤ nodes.count) × (0 < length marks.old) × (length marks.old ≤ 16384) }
+    ensures { is_some result ≡ fit (graph_of (nodes_of nodes.entry.words.now nodes.entry.count)) [] order.now }
 {
     let size = marks.len() * 64;
-    for lo in (0..count).step_by(size) {
-        if !fit_block(nodes, count, order, lo, marks) {
-            return false;
-        }
+    for lo in (0..nodes.count).step_by(size) {
+        fit_block(nodes, order, lo, marks)?;
     }
-    true
+    Some(())
 }
 
 // By so many words of marks, 64 nodes each.
-fn fit_by<const N: usize>(nodes: &[usize], count: usize, order: &[usize]) -> bool
-    requires { Accepted nodes.now count × (length order.now ≤ count) × (0 < N) × (N ≤ 16384) }
-    ensures { result ≡ fit (graph_of (nodes_of nodes.now count)) [] order.now }
+fn fit_by<const N: usize>(nodes: Nodes, order: &[usize]) -> Option<()>
+    requires { Accepted nodes.words.now nodes.count × (length order.now ≤ nodes.count) × (0 < N) × (N ≤ 16384) }
+    ensures { is_some result ≡ fit (graph_of (nodes_of nodes.entry.words.now nodes.entry.count)) [] order.now }
 {
     let mut marks = [0; N];
-    fit_blocks(nodes, count, order, &mut marks)
+    fit_blocks(nodes, order, &mut marks)
 }
 
 // A small circuit of up to 4,096 nodes has small marks, any other marks for 131,072: eight passes for the most that a reader makes, and a small place on the stack.
-pub fn fit_marked(nodes: &[usize], count: usize, order: &[usize]) -> bool
-    requires { Accepted nodes.now count × (length order.now ≤ count) }
-    ensures { result ≡ fit (graph_of (nodes_of nodes.now count)) [] order.now }
+pub fn fit_marked(nodes: Nodes, order: &[usize]) -> Option<()>
+    requires { Accepted nodes.words.now nodes.count × (length order.now ≤ nodes.count) }
+    ensures { is_some result ≡ fit (graph_of (nodes_of nodes.entry.words.now nodes.entry.count)) [] order.now }
 {
-    if count <= 4096 {
-        fit_by::<64>(nodes, count, order)
+    if nodes.count <= 4096 {
+        fit_by::<64>(nodes, order)
     } else {
-        fit_by::<2048>(nodes, count, order)
+        fit_by::<2048>(nodes, order)
     }
 }
 
 // The list has each cell once, after those it reads. The circuit has so many inputs.
-pub fn fit_list(nodes: &[usize], count: usize, inputs: usize, order: &[usize]) -> bool
-    requires { Accepted nodes.now count × (inputs ≡ input_count (nodes_of nodes.now count)) }
-    ensures { result ≡ fit_list (graph_of (nodes_of nodes.now count)) order.now }
+pub fn fit_list(nodes: Nodes, inputs: usize, order: &[usize]) -> bool
+    requires { Accepted nodes.words.now nodes.count × (inputs ≡ input_count (nodes_of nodes.words.now nodes.count)) }
+    ensures { result ≡ fit_list (graph_of (nodes_of nodes.entry.words.now nodes.entry.count)) order.now }
 {
-    order.len() == count - inputs && fit_marked(nodes, count, order)
+    order.len() == nodes.count - inputs && fit_marked(nodes, order).is_some()
 }

@@ -1,26 +1,30 @@
 // The inputs of a circuit, and an assignment to them (19).
-ghost use Rattle.std.specs.Prelude.{◌≡◌, true, cond, ◌+◌, ◌*◌, ◌<◌, ◌≤◌, ltb, length};
+ghost use Rattle.std.specs.Prelude.{◌≡◌, ◌<◌, ltb, length, IsSome};
 ghost use Rattle.laws.specs.Lists.{some};
 ghost use Rattle.circuit.specs.Records.{node_at, nodes_of, is_cell_node};
 ghost use Rattle.runs.specs.Runs.{put_in, input_count, wrong_assignment};
 ghost use Rattle.runs.specs.Work.{Passing, is_input_at, Putting, Puttable, InputsIn};
+ghost use Rattle.runs.specs.Calls.{assigned_fault};
 
-// 1 if node k is an input.
-pub fn input_at(nodes: &[usize], k: usize) -> usize
-    requires { k * 9 + 9 ≤ length nodes.now }
-    ensures { result ≡ cond (is_cell_node (node_at nodes.now k)) 0 1 }
+use circuit::check::validate_topological;
+use circuit::nodes::Nodes;
+use circuit::refusals::Refusal;
+
+// Node k is a cell.
+pub fn is_cell(nodes: Nodes, k: usize) -> bool
+    requires { k < nodes.count }
+    ensures { result ≡ is_cell_node (node_at nodes.entry.words.now k) }
 {
-    if nodes[k * 9] == 2 { 0 } else { 1 }
+    nodes.words[k * 9] == 2
 }
 
 // How many inputs there are.
-pub fn count_inputs(nodes: &[usize], count: usize) -> usize
-    requires { count * 9 ≤ length nodes.now }
-    ensures { result ≡ input_count (nodes_of nodes.now count) }
+pub fn count_inputs(nodes: Nodes) -> usize
+    ensures { result ≡ input_count (nodes_of nodes.entry.words.now nodes.entry.count) }
 {
     let mut n = 0;
-    for k in 0..count {
-        n += input_at(nodes, k);
+    for k in 0..nodes.count {
+        n += usize::from(!is_cell(nodes, k));
     }
     n
 }
@@ -33,37 +37,57 @@ pub fn some_above(assignment: &[u8], top: u8) -> bool
 }
 
 // Not a value for each input, or one above the top.
-pub fn wrong_assignment(nodes: &[usize], count: usize, assignment: &[u8], top: u8) -> bool
-    requires { count * 9 ≤ length nodes.now }
-    ensures { result ≡ wrong_assignment top (nodes_of nodes.now count) assignment.now }
+pub fn wrong_assignment(nodes: Nodes, assignment: &[u8], top: u8) -> bool
+    ensures { result ≡ wrong_assignment top (nodes_of nodes.entry.words.now nodes.entry.count) assignment.now }
 {
-    let n = count_inputs(nodes, count);
+    let n = count_inputs(nodes);
     assignment.len() != n || some_above(assignment, top)
 }
 
-// The value of node k goes into the store, if it is an input. The answer is the number of inputs passed.
-pub fn put_input(nodes: &[usize], k: usize, assignment: &[u8], p: usize, values: &mut [u8]) -> usize
-    requires { (k * 9 + 9 ≤ length nodes.now) × (k < length values.old) × (p < length assignment.now) }
-    ensures { Putting (is_input_at nodes.now k) k assignment.now p values.old result values.new }
+// The first refusal of a call with values up to the top: 15, 16, 19.
+pub fn assigned_fault(
+    nodes: &[usize],
+    outputs: &[usize],
+    assignment: &[u8],
+    top: u8,
+) -> Result<(), Refusal>
+    ensures { result ≡ assigned_fault top nodes.now outputs.now assignment.now }
 {
-    if nodes[k * 9] == 1 {
+    validate_topological(nodes, outputs)?;
+    if wrong_assignment(Nodes::of(nodes), assignment, top) {
+        return Err(Refusal::WrongValues);
+    }
+    Ok(())
+}
+
+// The value of node k goes into the store, if it is an input. The answer is the number of inputs passed.
+pub fn put_input(nodes: Nodes, k: usize, assignment: &[u8], p: usize, values: &mut [u8]) -> usize
+    requires { (k < nodes.count) × (k < length values.old) × (p < length assignment.now) }
+    ensures { Putting (is_input_at nodes.entry.words.now k) k assignment.now p values.old result values.new }
+{
+    if nodes.words[k * 9] == 1 {
         values[k] = assignment[p];
         return p + 1;
     }
     p
 }
 
-// The values of the assignment go to the inputs in turn, as far as there are values. False where there are too few inputs.
-pub fn put_inputs(nodes: &[usize], count: usize, assignment: &[u8], values: &mut [u8]) -> bool
-    requires { Puttable nodes.now count assignment.now values.old }
-    ensures { (result ≡ true → InputsIn nodes.now count assignment.now values.new) × (Passing nodes.now count assignment.now → (result ≡ true) × (values.new ≡ put_in assignment.now 0 0 values.old (nodes_of nodes.now count))) }
+// The values of the assignment go to the inputs in turn, as far as there are values. None where there are too few inputs.
+// One number goes over records and values, and another, which waits at cells, over the assignment.
+pub fn put_inputs(nodes: Nodes, assignment: &[u8], values: &mut [u8]) -> Option<()>
+    requires { Puttable nodes.words.now nodes.count assignment.now values.old }
+    ensures { (IsSome result → InputsIn nodes.entry.words.now nodes.entry.count assignment.now values.new) × (Passing nodes.entry.words.now nodes.entry.count assignment.now → IsSome result × (values.new ≡ put_in assignment.now 0 0 values.old (nodes_of nodes.entry.words.now nodes.entry.count))) }
 {
     let mut p = 0;
-    for k in 0..count {
+    for k in 0..nodes.count {
         if assignment.len() <= p {
-            return true;
+            return Some(());
         }
         p = put_input(nodes, k, assignment, p, values);
     }
-    assignment.len() <= p
+    if assignment.len() <= p {
+        Some(())
+    } else {
+        None
+    }
 }

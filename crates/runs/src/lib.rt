@@ -3,11 +3,10 @@
 #![tactic(auto)]
 
 pub mod ahead;
-pub mod answers;
-pub mod entries;
 pub mod evaluate;
 pub mod fitness;
 pub mod inputs;
+pub mod lookup;
 pub mod numbered;
 pub mod outputs;
 pub mod plain;
@@ -15,3 +14,5 @@ pub mod run;
 pub mod step;
 pub mod stretches;
 pub mod values;
+pub mod ways;
+pub mod wires;

@@ -8,7 +8,8 @@ ghost use Rattle.runs.specs.Calls.{room_fault};
 
 use crate::inputs::some_above;
 use crate::values::wire_value;
-use circuit::check::{are_whole, some_output_outside};
+use circuit::check::{are_whole, output_outside};
+use circuit::nodes::Outputs;
 use circuit::refusals::Refusal;
 
 // Refusal 3: the value store shorter than the nodes, or the output area than the outputs.
@@ -39,30 +40,30 @@ pub fn prepared(
 {
     if !are_whole(nodes, outputs)
         || some_above(assignment, top)
-        || some_output_outside(outputs, outputs.len() / 5, nodes.len() / 9)
+        || output_outside(Outputs::of(outputs), nodes.len() / 9)
     {
         return false;
     }
     room_fault(nodes, outputs, store, answers).is_ok()
 }
 
-// The value of each output's wire.
-pub fn put_outputs(outputs: &[usize], count: usize, values: &[u8], answers: &mut [u8])
-    requires { (count * 5 ≤ length outputs.now) × (count ≤ length answers.old) × (some_not_below (length values.now) (output_wires outputs.now count) ≡ false) }
-    ensures { answers.new ≡ outputs_from values.now (output_wires outputs.now count) ++ drop count answers.old }
+// The value of each output's wire. One number goes over both areas.
+pub fn put_outputs(outputs: Outputs, values: &[u8], answers: &mut [u8])
+    requires { (outputs.count ≤ length answers.old) × (some_not_below (length values.now) (output_wires outputs.words.now outputs.count) ≡ false) }
+    ensures { answers.new ≡ outputs_from values.now (output_wires outputs.entry.words.now outputs.entry.count) ++ drop outputs.entry.count answers.old }
 {
-    for j in 0..count {
-        answers[j] = wire_value(outputs[j * 5 + 4], values) as u8;
+    for j in 0..outputs.count {
+        answers[j] = wire_value(outputs.words[j * 5 + 4], values) as u8;
     }
 }
 
 // The outputs from the store and zeros after them, and the store cleared.
-pub fn give(outputs: &[usize], count: usize, values: &mut [u8], answers: &mut [u8])
-    requires { (count * 5 ≤ length outputs.now) × (count ≤ length answers.old) × (some_not_below (length values.old) (output_wires outputs.now count) ≡ false) }
-    ensures { (answers.new ≡ outputs_from values.old (output_wires outputs.now count) ++ replicate (length answers.old - count) 0) × (values.new ≡ replicate (length values.old) 0) }
+pub fn give(outputs: Outputs, values: &mut [u8], answers: &mut [u8])
+    requires { (outputs.count ≤ length answers.old) × (some_not_below (length values.old) (output_wires outputs.words.now outputs.count) ≡ false) }
+    ensures { (answers.new ≡ outputs_from values.old (output_wires outputs.entry.words.now outputs.entry.count) ++ replicate (length answers.old - outputs.entry.count) 0) × (values.new ≡ replicate (length values.old) 0) }
 {
     answers.fill(0);
-    put_outputs(outputs, count, values, answers);
+    put_outputs(outputs, values, answers);
     values.fill(0);
 }
 

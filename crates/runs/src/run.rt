@@ -1,5 +1,5 @@
 // The run along an order list.
-ghost use Rattle.std.specs.Prelude.{◌≡◌, true, false, [], ◌++◌, ◌+◌, ◌-◌, ◌*◌, ◌/◌, ◌≤◌, ltb, length, replicate};
+ghost use Rattle.std.specs.Prelude.{◌≡◌, true, false, [], ◌++◌, ◌+◌, ◌-◌, ◌/◌, ◌≤◌, ltb, length, replicate, is_some, IsSome};
 ghost use Rattle.laws.specs.Lists.{some};
 ghost use Rattle.circuit.specs.Records.{nodes_of};
 ghost use Rattle.circuit.specs.Check.{nodes_in, wires_in};
@@ -11,12 +11,13 @@ ghost use Rattle.runs.specs.Calls.{run_fault, run_call, call_result};
 
 use crate::ahead::counts_guessed;
 use crate::fitness::fit_list;
-use crate::inputs::{put_inputs, wrong_assignment};
+use crate::inputs::{assigned_fault, put_inputs};
 use crate::outputs::{give, prepared, refuse, room_fault};
 use crate::step::Walk;
 use crate::stretches::none_waits;
+use crate::ways::{Branched, Unbranched};
 use cells::answer_table;
-use circuit::check::validate_topological;
+use circuit::nodes::{Nodes, Outputs};
 use circuit::refusals::Refusal;
 
 // The first refusal of a run: 15, 16, 19, 20, 3.
@@ -30,12 +31,8 @@ pub fn run_fault(
 ) -> Result<(), Refusal>
     ensures { result ≡ run_fault nodes.now outputs.now order.now assignment.now store answers }
 {
-    validate_topological(nodes, outputs)?;
-    let count = nodes.len() / 9;
-    if wrong_assignment(nodes, count, assignment, 2) {
-        return Err(Refusal::WrongValues);
-    }
-    if !fit_list(nodes, count, assignment.len(), order) {
+    assigned_fault(nodes, outputs, assignment, 2)?;
+    if !fit_list(Nodes::of(nodes), assignment.len(), order) {
         return Err(Refusal::UnfitOrder);
     }
     room_fault(nodes, outputs, store, answers)
@@ -48,42 +45,42 @@ pub fn lists_cells(count: usize, inputs: usize, entries: usize) -> bool
     inputs <= count && entries == count - inputs
 }
 
-// A mark for every node, then the values of the inputs. False where there are too few inputs.
-pub fn marked_inputs(nodes: &[usize], count: usize, assignment: &[u8], values: &mut [u8]) -> bool
-    requires { (count * 9 ≤ length nodes.now) × (count ≤ length values.old) × (some (ltb 2) assignment.now ≡ false) }
-    ensures { (result ≡ true → InputsIn nodes.now count assignment.now values.new × Steppable nodes.now count values.new) × (Passing nodes.now count assignment.now → (result ≡ true) × Standing (nodes_of nodes.now count) assignment.now [] values.new) }
+// A mark for every node, then the values of the inputs. None where there are too few inputs.
+pub fn marked_inputs(nodes: Nodes, assignment: &[u8], values: &mut [u8]) -> Option<()>
+    requires { (nodes.count ≤ length values.old) × (some (ltb 2) assignment.now ≡ false) }
+    ensures { (IsSome result → InputsIn nodes.entry.words.now nodes.entry.count assignment.now values.new × Steppable nodes.entry.count values.new) × (Passing nodes.entry.words.now nodes.entry.count assignment.now → IsSome result × Standing (nodes_of nodes.entry.words.now nodes.entry.count) assignment.now [] values.new) }
 {
     values.fill(144);
-    put_inputs(nodes, count, assignment, values)
+    put_inputs(nodes, assignment, values)
 }
 
 // The inputs, then a step for each entry, which checks its record: with as many entries and values as nodes, each node is an input or a cell that was checked.
-// False where a node fails, the inputs are not as many as the values, or the list is not fit.
-pub fn run_store(
-    nodes: &[usize],
-    count: usize,
-    order: &[usize],
-    assignment: &[u8],
-    values: &mut [u8],
-) -> bool
-    requires { (count * 9 ≤ length nodes.now) × (count ≤ length values.old) × (some (ltb 2) assignment.now ≡ false) × (length order.now + length assignment.now ≡ count) }
-    ensures { Tells result (Passing nodes.now count assignment.now × (fit (graph_of (nodes_of nodes.now count)) [] order.now ≡ true)) × (result ≡ true → Standing (nodes_of nodes.now count) assignment.now order.now values.new) }
+// None where a node fails, the inputs are not as many as the values, or the list is not fit.
+pub fn run_store(nodes: Nodes, order: &[usize], assignment: &[u8], values: &mut [u8]) -> Option<()>
+    requires { (nodes.count ≤ length values.old) × (some (ltb 2) assignment.now ≡ false) × (length order.now + length assignment.now ≡ nodes.count) }
+    ensures { Tells (is_some result) (Passing nodes.entry.words.now nodes.entry.count assignment.now × (fit (graph_of (nodes_of nodes.entry.words.now nodes.entry.count)) [] order.now ≡ true)) × (IsSome result → Standing (nodes_of nodes.entry.words.now nodes.entry.count) assignment.now order.now values.new) }
 {
     let answers = answer_table();
     let walk = Walk {
         answers: &answers,
         nodes,
-        count,
         order,
-        guessed: counts_guessed(nodes, count),
     };
-    if !marked_inputs(nodes, count, assignment, values) || !walk.run_stretches(values) {
-        return false;
+    marked_inputs(nodes, assignment, values)?;
+    if counts_guessed(nodes) {
+        walk.run_stretches::<Branched>(values)?;
+    } else {
+        walk.run_stretches::<Unbranched>(values)?;
     }
-    none_waits(values, count)
+    if none_waits(values, nodes.count) {
+        Some(())
+    } else {
+        None
+    }
 }
 
-// What an accepted run does; false where the call is to be refused.
+// What an accepted run does; None where the call is to be refused.
+// Beside `evaluate_work` it is no plainer as one function: that would take the steps between as a closure with their promise.
 pub fn work(
     nodes: &[usize],
     outputs: &[usize],
@@ -91,18 +88,17 @@ pub fn work(
     assignment: &[u8],
     values: &mut [u8],
     answers: &mut [u8],
-) -> bool
-    ensures { Tells result (run_fault nodes.now outputs.now order.now assignment.now (length values.old) (length answers.old) ≡ Ok tt) × (result ≡ true → (answers.new ≡ run_outputs (nodes_in nodes.now) (wires_in outputs.now) assignment.now order.now values.old ++ replicate (length answers.old - length outputs.now / 5) 0) × (values.new ≡ replicate (length values.old) 0)) }
+) -> Option<()>
+    ensures { Tells (is_some result) (run_fault nodes.now outputs.now order.now assignment.now (length values.old) (length answers.old) ≡ Ok tt) × (IsSome result → (answers.new ≡ run_outputs (nodes_in nodes.now) (wires_in outputs.now) assignment.now order.now values.old ++ replicate (length answers.old - length outputs.now / 5) 0) × (values.new ≡ replicate (length values.old) 0)) }
 {
-    let count = nodes.len() / 9;
-    if prepared(nodes, outputs, assignment, 2, values.len(), answers.len())
-        && lists_cells(count, assignment.len(), order.len())
-        && run_store(nodes, count, order, assignment, values)
+    if !prepared(nodes, outputs, assignment, 2, values.len(), answers.len())
+        || !lists_cells(nodes.len() / 9, assignment.len(), order.len())
     {
-        give(outputs, outputs.len() / 5, values, answers);
-        return true;
+        return None;
     }
-    false
+    run_store(Nodes::of(nodes), order, assignment, values)?;
+    give(Outputs::of(outputs), values, answers);
+    Some(())
 }
 
 // The run along a list, which answers how many cells it worked out. A refusal is looked for once there is one.
@@ -119,7 +115,7 @@ pub fn run(
     let cells = order.len();
     let store = values.len();
     let room = answers.len();
-    if !work(nodes, outputs, order, assignment, values, answers) {
+    if work(nodes, outputs, order, assignment, values, answers).is_none() {
         refuse(values, answers);
         run_fault(nodes, outputs, order, assignment, store, room)?;
     }

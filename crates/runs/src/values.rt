@@ -1,35 +1,27 @@
 // What the words of a record say of its wires.
-ghost use Rattle.std.specs.Prelude.{◌≡◌, true, false, ◌+◌, ◌*◌, ◌%◌, ◌^◌, ◌<◌, ◌≤◌, length};
+ghost use Rattle.std.specs.Prelude.{◌≡◌, true, false, ◌+◌, ◌*◌, ◌^◌, ◌<◌, ◌≤◌, length};
 ghost use Rattle.circuit.specs.Records.{wire_of};
 ghost use Rattle.circuit.specs.Check.{not_below};
 ghost use Rattle.runs.specs.Values.{signal_value};
 ghost use Rattle.runs.specs.Work.{EarlierNode, BothEarlier};
 
-// The number before, round from 0 to the greatest. A compiler makes one subtraction of two of these, of std's wrapping difference four instructions.
-pub fn one_less(number: usize) -> usize
-    ensures { (result + 1) % 2 ^ 64 ≡ number }
-{
-    if number == 0 {
-        return usize::MAX;
-    }
-    number - 1
-}
+use circuit::nodes::Nodes;
 
 // The wire is of a node before k. One comparison tells: a constant's word becomes a number past every node.
 pub fn earlier_node(word: usize, k: usize) -> bool
     requires { k + 2 < 2 ^ 64 }
     ensures { result ≡ true → EarlierNode k word }
 {
-    one_less(one_less(word)) < k
+    word.wrapping_sub(2) < k
 }
 
 // Both wires of record k are of earlier nodes, as those of most cells are.
-pub fn both_earlier(nodes: &[usize], k: usize) -> bool
-    requires { k * 9 + 9 ≤ length nodes.now }
-    ensures { result ≡ true → BothEarlier nodes.now k }
+pub fn both_earlier(nodes: Nodes, k: usize) -> bool
+    requires { k < nodes.count }
+    ensures { result ≡ true → BothEarlier nodes.entry.words.now k }
 {
     let at = k * 9;
-    earlier_node(nodes[at + 7], k) && earlier_node(nodes[at + 8], k)
+    earlier_node(nodes.words[at + 7], k) && earlier_node(nodes.words[at + 8], k)
 }
 
 // The value of a node's wire, for a place in a table.

@@ -10,7 +10,7 @@ use native.Mathlib.Omega.{arith}
 use lib.Dec.{eqb, leb}
 use lib.ListN.{length, replicate}
 use borrow.Author.Tests.{eqb-true, eqb-false, eq-eqb, ne_eqb, leb-true, le-leb, lt-leb}
-use Rattle.laws.proofs.Tests.{and-true}
+use Rattle.std.proofs.lemmas.Bool.{and_parts}
 use Rattle.circuit.specs.declared.refusals.Refusal.{Refusal}
 use Rattle.circuit.specs.declared.refusals.Refusal.TheVariants.{Broken, NoWindow, WrongValues, NoRoom, Circle}
 use Rattle.circuit.specs.Refusals.{Checked}
@@ -99,8 +99,8 @@ module _ (nodes outputs : List ℕ) (window : ℕ) (keys : List ℕ) (ready succ
     pub orderable : Orderable nodes (length keys) window ready successors order
     unfolding room
     orderable =
-        let a = and-true (leb (3 * (length nodes / 9)) ready) (leb (2 * (length nodes / 9) + 1) successors && leb (length nodes / 9) order) has_room in
-        let b = and-true (leb (2 * (length nodes / 9) + 1) successors) (leb (length nodes / 9) order) a.1 in
+        let a = and_parts (leb (3 * (length nodes / 9)) ready) (leb (2 * (length nodes / 9) + 1) successors && leb (length nodes / 9) order) has_room in
+        let b = and_parts (leb (2 * (length nodes / 9) + 1) successors) (leb (length nodes / 9) order) a.1 in
         record {
           wired = sound_wired nodes (length nodes / 9) (wires_in outputs) unbroken;
           window_is = omega (arith, eqb-false window 0 (not_refused _ NoWindow window_sound.0));

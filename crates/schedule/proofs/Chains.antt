@@ -18,8 +18,8 @@ use Rattle.std.specs.Prelude.{Option, None, Some}
 use Rattle.std.specs.Option.{is_some}
 use Rattle.schedule.specs.Areas.{cell_at, one, entry_of, Wired, source_of, last_of, both, word_passes, reading, Running, head_set, next_set, Linked, linked, Opened, Empty}
 use Rattle.readyset.specs.Sets.{member, Levels}
-use Rattle.laws.proofs.Tests.{clash, or_false}
-use Rattle.laws.proofs.Digits.{and_last}
+use Rattle.std.proofs.Math.Bool.{and-true, or-false}
+use Rattle.laws.proofs.Tests.{clash}
 use Rattle.circuit.proofs.Graph.{waits_makes}
 use Rattle.schedule.proofs.Edges.{last_more, last_other, both_same}
 use Rattle.schedule.proofs.Records.{length_in, cell-is}
@@ -124,7 +124,7 @@ module _ (nodes : List ℕ) (n : ℕ) (start : List ℕ) where
           go false z = let g = eqb-false q done z in e.words (2 * q) (omega arith) (λ y. g (omega arith)) ∙ o.pends q (omega arith)
 
       other : (q : ℕ) → q < n → q ≢ done → member (drop (2 * n) area') q ≡ member (drop (2 * n) area) q
-      other q l h = e.members q l ∙ rw (ne_eqb q done h) (or_false (member (drop (2 * n) area) q))
+      other q l h = e.members q l ∙ rw (ne_eqb q done h) (or-false (member (drop (2 * n) area) q))
 
       flags : (q : ℕ) → q < done + 1 → q < n → member (drop (2 * n) area') q ≡ cell_at nodes q && eqb (both (linked (source_of nodes)) q) 0
       flags q h l = go (eqb q done) refl
@@ -155,7 +155,7 @@ module _ (nodes : List ℕ) (n : ℕ) (wired : Wired nodes n) where
 
   open_waits : (q : ℕ) → q < n → waits (graph_in nodes n) [] q ≡ cell_at nodes q
   unfolding waits
-  open_waits q h = and_last (is_cell (graph_in nodes n) q) ∙ cell-is nodes n q h
+  open_waits q h = and-true (is_cell (graph_in nodes n) q) ∙ cell-is nodes n q h
 
   pub opening_end : (start area next : List ℕ) (done : ℕ) → Opening nodes n start done area → done ≡ n → 3 * n ≤ length start → 2 * n < length next → Linked (source_of nodes) n (2 * n) start next → Running (source_of nodes) (graph_in nodes n) [] area next
   opening_end start area next done o e room links l =

@@ -7,8 +7,10 @@ use mathlib.Core.Bool.{Bool, true, false, not, ◌||◌, false≢true}
 use mathlib.Core.List.{List, [], ◌∷◌}
 use native.Mathlib.Omega.{arith}
 use lib.ListN.{length}
+use Rattle.std.proofs.Math.Bool.{or-true}
+use Rattle.std.proofs.lemmas.Bool.{true_from_ne_false}
 use Rattle.laws.specs.Lists.{elem, some}
-use Rattle.laws.proofs.Tests.{clash, true_of, or_true}
+use Rattle.laws.proofs.Tests.{clash}
 use Rattle.laws.proofs.Lists.{elem-cons-split, elem_here, elem-later, numbers_in, in_numbers}
 use Rattle.circuit.specs.Graph.{Vertex, is_cell, cells_of, Circle, ListsAll}
 use Rattle.circuit.proofs.Graph.{cell_below, waits-cell, waits_fresh, taken_of, left_none, left_some}
@@ -26,7 +28,7 @@ some_in p (x ∷ l) k m h = go (elem-cons-split k x l m) (some_in p l k)
   where
     go : (k ≡ x) ⊎ (elem k l ≡ true) → (elem k l ≡ true → p k ≡ true → some p l ≡ true) → p x || some p l ≡ true
     go (inl e) below = rw (ap p (sym e) ∙ h)
-    go (inr m) below = rw (below m h) (or_true (p x))
+    go (inr m) below = rw (below m h) (or-true (p x))
 
 module _ (c : List Vertex) where
   pub cells_in : (k : ℕ) → elem k (cells_of c) ≡ true → is_cell c k ≡ true
@@ -61,4 +63,4 @@ module _ (c : List Vertex) where
     pub none_out : leaves_out (schedule_of c window key) (cells_of c) ≡ false → ListsAll c (schedule_of c window key)
     unfolding leaves_out
     none_out e x h =
-        true_of (elem x (schedule_of c window key)) (λ z. clash (some_in (λ k. not (elem k (schedule_of c window key))) (cells_of c) x (in_cells x h) (ap not z)) e)
+        true_from_ne_false (elem x (schedule_of c window key)) (λ z. clash (some_in (λ k. not (elem k (schedule_of c window key))) (cells_of c) x (in_cells x h) (ap not z)) e)

@@ -12,8 +12,8 @@ use borrow.Author.Tests.{ne_eqb, eq-eqb, le-leb, lt-leb, eqb-true, eqb-false, le
 use Rattle.circuit.specs.Graph.{Vertex, is_cell, waits, ready}
 use Rattle.schedule.specs.Areas.{last_of, one, both, word_passes, reading, partly, Running, Moved, Lowered, Releasable, Released}
 use Rattle.readyset.specs.Sets.{member, Levels}
-use Rattle.laws.proofs.Digits.{and_last, and_none}
-use Rattle.laws.proofs.Tests.{true_of, and-true, or_false, or_true}
+use Rattle.std.proofs.Math.Bool.{and-false, and-true, or-false, or-true}
+use Rattle.std.proofs.lemmas.Bool.{and_parts, true_from_ne_false}
 use Rattle.circuit.proofs.Graph.{cell_below, waits-cell, waits_taken, ready-waits}
 use Rattle.laws.proofs.Lists.{elem_snoc_same, elem_snoc_other}
 use Rattle.schedule.proofs.Edges.{last_le, last_reads, last_top, both_same, both-drop, both-kept, both_some}
@@ -47,11 +47,11 @@ reading_same src v w p e same h = word_same v w p (src e) same h
 module _ (src : ℕ → ℕ) (v w : ℕ → Bool) (p : ℕ) (off : w p ≡ false) where
   partly_none : (m e : ℕ) → src e ≢ suc p → partly src w p m e ≡ reading src w e
   unfolding partly
-  partly_none m e h = rw (ne_eqb (src e) (suc p) h, and_none (leb e m)) (or_false (reading src w e))
+  partly_none m e h = rw (ne_eqb (src e) (suc p) h, and-false (leb e m)) (or-false (reading src w e))
 
   partly_hit : (m e : ℕ) → src e ≡ suc p → partly src w p m e ≡ leb e m
   unfolding partly reading
-  partly_hit m e h = rw (h, off, eq-eqb (suc p) (suc p) refl) (and_last (leb e m))
+  partly_hit m e h = rw (h, off, eq-eqb (suc p) (suc p) refl) (and-true (leb e m))
 
   -- at the chain's start nothing is released
   partly-start : v p ≡ true → ((x : ℕ) → x ≢ p → v x ≡ w x) → (n e : ℕ) → 1 ≤ e → e ≤ n → partly src w p (last_of src p n) e ≡ reading src v e
@@ -140,8 +140,8 @@ module _ (src : ℕ → ℕ) (c : List Vertex) (taken area next : List ℕ) (p :
       go : (t : Bool) → eqb q p ≡ t → member (drop (2 * length c) area) q ≡ still_ready src c taken p (last_of src p (2 * length c)) q || eqb q p
       go true e =
           run.flags q h ∙ ap (ready c taken) (eqb-true q p e) ∙ is_ready
-          ∙ sym (ap (λ (t : Bool). still_ready src c taken p (last_of src p (2 * length c)) q || t) e ∙ or_true (still_ready src c taken p (last_of src p (2 * length c)) q))
-      go false e = run.flags q h ∙ ready_now q h ∙ rw (e, start-both q h, ← (same q (eqb-false q p e))) (sym (or_false _))
+          ∙ sym (ap (λ (t : Bool). still_ready src c taken p (last_of src p (2 * length c)) q || t) e ∙ or-true (still_ready src c taken p (last_of src p (2 * length c)) q))
+      go false e = run.flags q h ∙ ready_now q h ∙ rw (e, start-both q h, ← (same q (eqb-false q p e))) (sym (or-false _))
 
   pub releasing_start : Releasing src c taken p area (last_of src p (2 * length c))
   releasing_start =
@@ -159,7 +159,7 @@ module _ (src : ℕ → ℕ) (c : List Vertex) (taken area next : List ℕ) (p :
   started = rw (run.heads p in_range) releasing_start
 
   ready-none : both (reading src (waits c taken)) p ≡ 0
-  ready-none = eqb-true _ 0 (and-true (waits c taken p) (eqb (both (reading src (waits c taken)) p) 0) (sym (ready_now p in_range) ∙ is_ready)).1
+  ready-none = eqb-true _ 0 (and_parts (waits c taken p) (eqb (both (reading src (waits c taken)) p) 0) (sym (ready_now p in_range) ∙ is_ready)).1
 
   module _ (now : List ℕ) (m : ℕ) (rel : Releasing src c taken p now m) (some : m ≢ 0) where
     abbrev reader : ℕ
@@ -176,7 +176,7 @@ module _ (src : ℕ → ℕ) (c : List Vertex) (taken area next : List ℕ) (p :
     had = both_some (reading src (waits c taken)) m reader (omega arith) refl (reading_at src (waits c taken) m p hit ∙ now_waits)
 
     reader_waits : waits c taken reader ≡ true
-    reader_waits = true_of (waits c taken reader) (λ z. omega (arith, had, run.closed reader (run.sourced.reader m p (omega arith) rel.here hit) z))
+    reader_waits = true_from_ne_false (waits c taken reader) (λ z. omega (arith, had, run.closed reader (run.sourced.reader m p (omega arith) rel.here hit) z))
 
     reader_other : reader ≢ p
     reader_other z = omega (arith, had, ready-none, ap (both (reading src (waits c taken))) z)
@@ -222,10 +222,10 @@ module _ (src : ℕ → ℕ) (c : List Vertex) (taken area next : List ℕ) (p :
           go : (t : Bool) → eqb q reader ≡ t → member (drop (2 * length c) now) q || (eqb q reader && eqb (get_or now (2 * reader) 0 - 1) 0) ≡ still_ready src c taken p (last_of src p (m - 1)) q || eqb q p
           go true e =
               let f = eqb-true q reader e in
-              rw (e, ap (member (drop (2 * length c) now)) f ∙ was, fewer_left, ap (waits c (taken ++ p ∷ [])) f ∙ still-waits, ap (λ (z : ℕ). eqb z p) f ∙ ne_eqb reader p reader_other, f) (sym (or_false _))
+              rw (e, ap (member (drop (2 * length c) now)) f ∙ was, fewer_left, ap (waits c (taken ++ p ∷ [])) f ∙ still-waits, ap (λ (z : ℕ). eqb z p) f ∙ ne_eqb reader p reader_other, f) (sym (or-false _))
           go false e =
               let f = eqb-false q reader e in
-              rw (e, kept q f) (or_false (member (drop (2 * length c) now) q) ∙ rel.flags q h)
+              rw (e, kept q f) (or-false (member (drop (2 * length c) now) q) ∙ rel.flags q h)
 
       pub releasing_turn : Releasing src c taken p after (get_or next m 0)
       releasing_turn =
@@ -260,7 +260,7 @@ module _ (src : ℕ → ℕ) (c : List Vertex) (taken area next : List ℕ) (p :
 
   -- p is still in the set, until it is taken out
   pub flagged : (now : List ℕ) (m : ℕ) → Releasing src c taken p now m → member (drop (2 * length c) now) p ≡ true
-  flagged now m rel = rel.flags p in_range ∙ ap (λ (t : Bool). still_ready src c taken p m p || t) (eq-eqb p p refl) ∙ or_true (still_ready src c taken p m p)
+  flagged now m rel = rel.flags p in_range ∙ ap (λ (t : Bool). still_ready src c taken p m p || t) (eq-eqb p p refl) ∙ or-true (still_ready src c taken p m p)
 
   pub releasing_end : (now : List ℕ) → Releasing src c taken p now 0 → (after : List ℕ) → Moved false (length c) now p after → Running src c (taken ++ p ∷ []) after next
   unfolding still_ready

@@ -10,8 +10,9 @@ use lib.Dec.{ltb, eqb}
 use lib.ListN.{length, take}
 use mathlib.Core.Option.{some}
 use borrow.Author.Tests.{ltb-true, ltb-false, lt-ltb, le-ltb, eqb-true, eq-eqb}
+use Rattle.std.proofs.lemmas.Bool.{false_from_ne_true, true_from_ne_false}
 use Rattle.laws.specs.Lists.{elem, keep, numbers}
-use Rattle.laws.proofs.Tests.{clash, false_of, true_of}
+use Rattle.laws.proofs.Tests.{clash}
 use Rattle.laws.proofs.Lists.{elem-cons-split, elem_here, elem-later}
 use Rattle.circuit.specs.Graph.{Vertex, ready, ready_cells}
 use Rattle.schedule.specs.Schedule.{Key, above, best, pick, next}
@@ -78,14 +79,14 @@ above-split a b d p =
 
 -- the relation by which keys are ordered: no key above, one way
 pub not-above : (a b d : Key) → above a b ≡ false → above b d ≡ false → above a d ≡ false
-not-above a b d p q = false_of (above a d) (λ h. go (above-split a b d h))
+not-above a b d p q = false_from_ne_true (above a d) (λ h. go (above-split a b d h))
   where
     go : (above a b ≡ true) ⊎ (above b d ≡ true) → ⊥
     go (inl e) = clash e p
     go (inr e) = clash e q
 
 pub not_self : (a : Key) → above a a ≡ false
-not_self a = false_of (above a a) (λ h. above_asym a a h h)
+not_self a = false_from_ne_true (above a a) (λ h. above_asym a a h h)
 
 pub best_greatest : (key : ℕ → Key) (b : ℕ) (ks : List ℕ) (k : ℕ) → elem k (b ∷ ks) ≡ true → above (key k) (key (best key b ks)) ≡ false
 unfolding best
@@ -103,7 +104,7 @@ best_greatest key b (x ∷ ks) k m = go (above (key x) (key b)) refl (best_great
         on = rw e at below
 
         fork : (k ≡ b) ⊎ (elem k (x ∷ ks) ≡ true) → above (key k) (key (best key x ks)) ≡ false
-        fork (inl q) = rw q (not-above (key b) (key x) (key (best key x ks)) (false_of _ (λ h. above_asym (key b) (key x) h e)) (on x (elem_here x x ks refl)))
+        fork (inl q) = rw q (not-above (key b) (key x) (key (best key x ks)) (false_from_ne_true _ (λ h. above_asym (key b) (key x) h e)) (on x (elem_here x x ks refl)))
         fork (inr g) = on k g
     go false e below = rw e (fork (elem-cons-split k b (x ∷ ks) m))
       where
@@ -126,7 +127,7 @@ best_moves key b (x ∷ ks) = go (above (key x) (key b)) refl (best_moves key (c
   where
     via : above (key x) (key b) ≡ true → (best key x ks ≡ x) ⊎ (above (key (best key x ks)) (key x) ≡ true) → above (key (best key x ks)) (key b) ≡ true
     via e (inl q) = ap (λ (z : ℕ). above (key z) (key b)) q ∙ e
-    via e (inr q) = true_of _ (λ h. clash (above_cases q h) refl)
+    via e (inr q) = true_from_ne_false _ (λ h. clash (above_cases q h) refl)
       where
         above_cases : above (key (best key x ks)) (key x) ≡ true → above (key (best key x ks)) (key b) ≡ false → false ≡ true
         above_cases p h = split (above-split (key (best key x ks)) (key b) (key x) p)

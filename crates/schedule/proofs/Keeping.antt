@@ -10,8 +10,7 @@ use lib.Dec.{eqb}
 use lib.ListN.{length, get_or, drop, length-append}
 use lib.Seq.{get_or-drop}
 use borrow.Author.Tests.{ne_eqb, eq-eqb, eqb-false}
-use Rattle.laws.proofs.Digits.{and_last, and_none}
-use Rattle.laws.proofs.Tests.{or_false}
+use Rattle.std.proofs.Math.Bool.{and-false, and-true, or-false}
 use Rattle.laws.specs.Lists.{numbers}
 use Rattle.laws.proofs.Lists.{one_less, numbers_same, numbers-empty}
 use Rattle.readyset.specs.Sets.{member, Levels}
@@ -74,12 +73,12 @@ module _ (p : ℕ → Bool) (lo hi : ℕ) (order : lo ≤ hi) where
 
   pub count_one : (x : ℕ) → lo ≤ x → x < hi → p x ≡ true → ((j : ℕ) → lo ≤ j → j < hi → j ≢ x → p j ≡ false) → length (numbers p 0 hi) ≡ length (numbers p 0 lo) + 1
   count_one x a b on off =
-      let e = one_less p (λ k. p k && not (eqb k x)) lo (hi - lo) x a (omega arith) on (rw (eq-eqb x x refl) (and_none (p x))) (λ k z. rw (ne_eqb k x z) (and_last (p k))) in
+      let e = one_less p (λ k. p k && not (eqb k x)) lo (hi - lo) x a (omega arith) on (rw (eq-eqb x x refl) (and-false (p x))) (λ k z. rw (ne_eqb k x z) (and-true (p k))) in
       let f : length (numbers (λ k. p k && not (eqb k x)) lo (hi - lo)) ≡ 0 = ap length (numbers-empty (λ k. p k && not (eqb k x)) lo (hi - lo) (λ k c d. out k c (omega arith) (eqb k x) refl)) in
       omega (arith, split, e, f)
     where
       out : (k : ℕ) → lo ≤ k → k < hi → (t : Bool) → eqb k x ≡ t → p k && not (eqb k x) ≡ false
-      out k c d true e = rw e (and_none (p k))
+      out k c d true e = rw e (and-false (p k))
       out k c d false e = rw (e, off k c d (eqb-false k x e))
 
 -- one node's readiness changes
@@ -98,7 +97,7 @@ module _ (n : ℕ) (keys area : List ℕ) (at : Window) (t : Tracked n keys area
       -- the node waits still
       module _ (waits : get_or after (2 * q) 0 ≢ 0) where
         same : (k : ℕ) → k < n → member (drop (2 * n) after) k ≡ member (drop (2 * n) area) k
-        same k h = m.members k h ∙ ap (λ (s : Bool). member (drop (2 * n) area) k || (eqb k q && s)) (ne_eqb (get_or area (2 * q) 0 - 1) 0 (λ z. waits (m.waiting ∙ z))) ∙ ap (λ (s : Bool). member (drop (2 * n) area) k || s) (and_none (eqb k q)) ∙ or_false (member (drop (2 * n) area) k)
+        same k h = m.members k h ∙ ap (λ (s : Bool). member (drop (2 * n) area) k || (eqb k q && s)) (ne_eqb (get_or area (2 * q) 0 - 1) 0 (λ z. waits (m.waiting ∙ z))) ∙ ap (λ (s : Bool). member (drop (2 * n) area) k || s) (and-false (eqb k q)) ∙ or-false (member (drop (2 * n) area) k)
 
         pub lowered_waits : Tracked n keys after at
         lowered_waits =
@@ -110,7 +109,7 @@ module _ (n : ℕ) (keys area : List ℕ) (at : Window) (t : Tracked n keys area
             }
 
       other : (k : ℕ) → k < n → k ≢ q → member (drop (2 * n) after) k ≡ member (drop (2 * n) area) k
-      other k h d = m.members k h ∙ ap (λ (s : Bool). member (drop (2 * n) area) k || (s && eqb (get_or area (2 * q) 0 - 1) 0)) (ne_eqb k q d) ∙ or_false (member (drop (2 * n) area) k)
+      other k h d = m.members k h ∙ ap (λ (s : Bool). member (drop (2 * n) area) k || (s && eqb (get_or area (2 * q) 0 - 1) 0)) (ne_eqb k q d) ∙ or-false (member (drop (2 * n) area) k)
 
       module _ (cells : ReadyCells) (counted : Counted n after cells) (r : Window) (number : r.number ≡ cells.number) (limit : r.limit ≡ at.limit) where
         -- it became ready beyond the limit
@@ -140,7 +139,7 @@ module _ (n : ℕ) (keys area : List ℕ) (at : Window) (t : Tracked n keys area
           }
         where
           now : (j : ℕ) → j < at.limit → member (drop (2 * n) after) j ≡ member (drop (2 * n) area) j || eqb j q
-          now j h = m.members j (omega (arith, t.ranked.bound)) ∙ ap (λ (s : Bool). member (drop (2 * n) area) j || (eqb j q && s)) (eq-eqb (get_or area (2 * q) 0 - 1) 0 (sym m.waiting ∙ zero)) ∙ ap (λ (s : Bool). member (drop (2 * n) area) j || s) (and_last (eqb j q))
+          now j h = m.members j (omega (arith, t.ranked.bound)) ∙ ap (λ (s : Bool). member (drop (2 * n) area) j || (eqb j q && s)) (eq-eqb (get_or area (2 * q) 0 - 1) 0 (sym m.waiting ∙ zero)) ∙ ap (λ (s : Bool). member (drop (2 * n) area) j || s) (and-true (eqb j q))
 
           tally : at.inside + 1 ≡ length (numbers (member (drop (2 * n) after)) 0 at.limit)
           tally = omega (arith, t.inside, tally_up at.limit q near (member (drop (2 * n) area)) (member (drop (2 * n) after)) now fresh)
@@ -150,7 +149,7 @@ module _ (n : ℕ) (keys area : List ℕ) (at : Window) (t : Tracked n keys area
       pub moved_stale : Ranked n at.limit keys after (q / 64)
       moved_stale =
           ranked_changed n at.limit keys area after m.size kept (n / 64 + 1) (q / 64) t.ranked
-          (λ w k d e h. m.members k (omega (arith, t.ranked.bound)) ∙ ap (λ (s : Bool). member (drop (2 * n) area) k && not s) (ne_eqb k q (λ z. d (sym e ∙ ap (λ (i : ℕ). i / 64) z))) ∙ and_last (member (drop (2 * n) area) k))
+          (λ w k d e h. m.members k (omega (arith, t.ranked.bound)) ∙ ap (λ (s : Bool). member (drop (2 * n) area) k && not s) (ne_eqb k q (λ z. d (sym e ∙ ap (λ (i : ℕ). i / 64) z))) ∙ and-true (member (drop (2 * n) area) k))
           (λ w h d. omega arith)
 
       pub moved_tracked : q < at.limit → member (drop (2 * n) area) q ≡ true → (mid : List ℕ) → Fronted n after mid → Ranked n at.limit keys mid (n / 64 + 1) → (r : Window) → r.number ≡ at.number - 1 → r.limit ≡ at.limit → r.inside ≡ at.inside - 1 → Tracked n keys mid r
@@ -165,5 +164,5 @@ module _ (n : ℕ) (keys area : List ℕ) (at : Window) (t : Tracked n keys area
   -- some node below the limit is ready
   pub inside_some : (q : ℕ) → q < at.limit → member (drop (2 * n) area) q ≡ true → (1 ≤ at.inside) × (1 ≤ at.number)
   inside_some q near flag =
-      let e = one_less (member (drop (2 * n) area)) (λ k. member (drop (2 * n) area) k && not (eqb k q)) 0 at.limit q (omega arith) (omega arith) flag (rw (eq-eqb q q refl) (and_none (member (drop (2 * n) area) q))) (λ k z. rw (ne_eqb k q z) (and_last (member (drop (2 * n) area) k))) in
+      let e = one_less (member (drop (2 * n) area)) (λ k. member (drop (2 * n) area) k && not (eqb k q)) 0 at.limit q (omega arith) (omega arith) flag (rw (eq-eqb q q refl) (and-false (member (drop (2 * n) area) q))) (λ k z. rw (ne_eqb k q z) (and-true (member (drop (2 * n) area) k))) in
       (omega (arith, t.inside, e), omega (arith, t.inside, e, inside_few))

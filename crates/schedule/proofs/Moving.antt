@@ -10,13 +10,13 @@ use lib.ListN.{length, get_or, set, take, drop, replicate, length-set, length-dr
 use lib.Seq.{get_or-set_same, get_or-set_other, get_or-drop, drop-set-lt}
 use borrow.Rule.Slice.PartMut.{put_mid, mid_of, same_len_mid}
 use Rattle.readyset.specs.Sets.{member, Levels, Marked}
-use Rattle.laws.proofs.Areas.{drop-replicate}
-use Rattle.laws.proofs.Parts.{part_rest, put_rest, put_words}
+use Rattle.std.proofs.Math.Bool.{and-false, and-true, or-false, or-true}
+use Rattle.std.proofs.lemmas.List.{drop-replicate, nil_from_length, take_rest}
+use Rattle.laws.proofs.Parts.{put_rest, put_words}
 use Rattle.readyset.proofs.Empty.{empty-none, empty_levels}
 use Rattle.laws.specs.Lists.{numbers}
-use Rattle.laws.proofs.Digits.{and_last, and_none}
-use Rattle.laws.proofs.Tests.{clash, or_true, or_false}
-use Rattle.laws.proofs.Lists.{one_less, numbers_same, numbers-empty, numbers-none, empty_of_length}
+use Rattle.laws.proofs.Tests.{clash}
+use Rattle.laws.proofs.Lists.{one_less, numbers_same, numbers-empty, numbers-none}
 use borrow.Author.Tests.{eq-eqb, ne_eqb, eqb-true, eqb-false}
 use Rattle.schedule.specs.declared.waiting.ReadyCells.{ReadyCells}
 use Rattle.schedule.specs.Tree.{Kept}
@@ -25,10 +25,10 @@ use Rattle.schedule.proofs.Order.{length-numbers}
 
 module _ (n : ℕ) (area : List ℕ) (room : 3 * n ≤ length area) where
   pub set_room : n ≤ length (take (length area - 2 * n) (drop (2 * n) area))
-  set_room = rw (part_rest (2 * n) area) (omega (arith, length-drop (2 * n) area))
+  set_room = rw (take_rest area (2 * n)) (omega (arith, length-drop (2 * n) area))
 
   pub set_levels : Levels (drop (2 * n) area) n → Levels (take (length area - 2 * n) (drop (2 * n) area)) n
-  set_levels t = rw (part_rest (2 * n) area) t
+  set_levels t = rw (take_rest area (2 * n)) t
 
   pub set_moved : (up : Bool) (k : ℕ) (part : List ℕ) → length part ≡ length (mid_of (2 * n) (length area - 2 * n) area) → Marked up (take (length area - 2 * n) (drop (2 * n) area)) n k part → Moved up n area k (put_mid (2 * n) (length area - 2 * n) area part)
   set_moved up k part e by =
@@ -36,14 +36,14 @@ module _ (n : ℕ) (area : List ℕ) (room : 3 * n ≤ length area) where
         size = same_len_mid (2 * n) (length area - 2 * n) area part e;
         words = put_words (2 * n) area part (omega arith);
         levels = rw (put_rest (2 * n) area part (omega arith)) by.levels;
-        members = rw (put_rest (2 * n) area part (omega arith)) (rw (part_rest (2 * n) area) at by.members);
+        members = rw (put_rest (2 * n) area part (omega arith)) (rw (take_rest area (2 * n)) at by.members);
       }
 
   -- the words after the set stay
   pub set-kept : (up : Bool) (k : ℕ) (part : List ℕ) → Marked up (take (length area - 2 * n) (drop (2 * n) area)) n k part → Kept n area (put_mid (2 * n) (length area - 2 * n) area part)
   set-kept up k part by i h =
       let e : 2 * n + (i - 2 * n) ≡ i = omega arith in
-      at (put_mid (2 * n) (length area - 2 * n) area part) e ∙ ap (λ (l : List ℕ). get_or l (i - 2 * n) 0) (put_rest (2 * n) area part (omega arith)) ∙ by.beyond (i - 2 * n) (omega arith) ∙ ap (λ (l : List ℕ). get_or l (i - 2 * n) 0) (part_rest (2 * n) area) ∙ sym (at area e)
+      at (put_mid (2 * n) (length area - 2 * n) area part) e ∙ ap (λ (l : List ℕ). get_or l (i - 2 * n) 0) (put_rest (2 * n) area part (omega arith)) ∙ by.beyond (i - 2 * n) (omega arith) ∙ ap (λ (l : List ℕ). get_or l (i - 2 * n) 0) (take_rest area (2 * n)) ∙ sym (at area e)
     where
       at : (l : List ℕ) → 2 * n + (i - 2 * n) ≡ i → get_or l i 0 ≡ get_or (drop (2 * n) l) (i - 2 * n) 0
       at l e = sym (get_or-drop (2 * n) l (i - 2 * n) 0 ∙ ap (λ (j : ℕ). get_or l j 0) e)
@@ -63,7 +63,7 @@ module _ (n : ℕ) (area : List ℕ) (room : 3 * n ≤ length area) (q v : ℕ) 
         words = λ i h u. get_or-set_other area (2 * q) i v 0 u;
         waiting = get_or-set_same area (2 * q) v 0 (omega arith);
         levels = note_levels levels;
-        members = λ j h. rw (rest_same, e) (rw (and_none (eqb j q)) (sym (or_false (member (drop (2 * n) area) j))));
+        members = λ j h. rw (rest_same, e) (rw (and-false (eqb j q)) (sym (or-false (member (drop (2 * n) area) j))));
       }
 
   pub noted_up : (t : Bool) → t ≡ true → (after : List ℕ) → Moved true n (set area (2 * q) v) q after → Noted n area q v t after
@@ -73,7 +73,7 @@ module _ (n : ℕ) (area : List ℕ) (room : 3 * n ≤ length area) (q v : ℕ) 
         words = λ i h u. m.words i h ∙ get_or-set_other area (2 * q) i v 0 u;
         waiting = m.words (2 * q) (omega arith) ∙ get_or-set_same area (2 * q) v 0 (omega arith);
         levels = m.levels;
-        members = λ j h. (rw rest_same at m.members) j h ∙ ap (λ (s : Bool). member (drop (2 * n) area) j || s) (sym (ap (λ (s : Bool). eqb j q && s) e ∙ and_last (eqb j q)));
+        members = λ j h. (rw rest_same at m.members) j h ∙ ap (λ (s : Bool). member (drop (2 * n) area) j || s) (sym (ap (λ (s : Bool). eqb j q && s) e ∙ and-true (eqb j q)));
       }
 
   pub noted-kept : (after : List ℕ) → Kept n (set area (2 * q) v) after → Kept n area after
@@ -87,13 +87,13 @@ module _ (n : ℕ) (area : List ℕ) (room : 3 * n ≤ length area) (q v : ℕ) 
 module _ (n q : ℕ) (below : q < n) (was now : ℕ → Bool) where
   pub tally_up : ((j : ℕ) → j < n → now j ≡ was j || eqb j q) → was q ≡ false → suc (length (numbers was 0 n)) ≡ length (numbers now 0 n)
   tally_up h e =
-      one_less (λ j. was j || eqb j q) was 0 n q (omega arith) (omega arith) (rw (eq-eqb q q refl) (or_true (was q))) e (λ k z. sym (rw (ne_eqb k q z) (or_false (was k))))
+      one_less (λ j. was j || eqb j q) was 0 n q (omega arith) (omega arith) (rw (eq-eqb q q refl) (or-true (was q))) e (λ k z. sym (rw (ne_eqb k q z) (or-false (was k))))
       ∙ sym (ap length (numbers_same (λ j. was j || eqb j q) now 0 n (λ k a b. h k (omega arith))))
 
   pub tally_down : ((j : ℕ) → j < n → now j ≡ was j && not (eqb j q)) → was q ≡ true → suc (length (numbers now 0 n)) ≡ length (numbers was 0 n)
   tally_down h e =
       ap (λ (l : List ℕ). suc (length l)) (numbers_same (λ j. was j && not (eqb j q)) now 0 n (λ k a b. h k (omega arith)))
-      ∙ one_less was (λ j. was j && not (eqb j q)) 0 n q (omega arith) (omega arith) e (rw (eq-eqb q q refl) (and_none (was q))) (λ k z. rw (ne_eqb k q z) (and_last (was k)))
+      ∙ one_less was (λ j. was j && not (eqb j q)) 0 n q (omega arith) (omega arith) e (rw (eq-eqb q q refl) (and-false (was q))) (λ k z. rw (ne_eqb k q z) (and-true (was k)))
 
 pub counted_few : (n : ℕ) (area : List ℕ) (cells : ReadyCells) → Counted n area cells → cells.number ≤ n
 counted_few n area cells c = omega (arith, c.number, length-numbers (member (drop (2 * n) area)) 0 n)
@@ -133,12 +133,12 @@ counted_none n area e r low number =
     }
 
 pub counted_over : (n : ℕ) (area : List ℕ) (cells : ReadyCells) → Counted n area cells → cells.number ≡ 0 → ready_in n area ≡ []
-counted_over n area cells c z = empty_of_length _ (sym c.number ∙ z)
+counted_over n area cells c z = nil_from_length _ (sym c.number ∙ z)
 
 -- a cleared area has no ready node
 pub cleared_empty : (n : ℕ) (area : List ℕ) (k : ℕ) (after : List ℕ) → area ≡ replicate k 0 → drop (2 * n) after ≡ drop (2 * n) area → Empty n after
 cleared_empty n area k after e d =
-    let f : drop (2 * n) after ≡ replicate (k - 2 * n) 0 = d ∙ ap (drop (2 * n)) e ∙ drop-replicate (2 * n) k 0 in
+    let f : drop (2 * n) after ≡ replicate (k - 2 * n) 0 = d ∙ ap (drop (2 * n)) e ∙ drop-replicate {X = ℕ} (2 * n) k 0 in
     record { levels = rw f (empty_levels (k - 2 * n) n); none = λ j h. rw f (empty-none (k - 2 * n) j) }
 
 -- what `open` notes of a node

@@ -9,8 +9,9 @@ use mathlib.Core.Option.{Option, none, some}
 use native.Mathlib.Omega.{arith}
 use lib.ListN.{length, take}
 use lib.Seq.{take-nil}
+use Rattle.std.proofs.lemmas.Bool.{and_from, true_from_ne_false}
 use Rattle.laws.specs.Lists.{elem, keep, numbers}
-use Rattle.laws.proofs.Tests.{clash, true_of, and_makes}
+use Rattle.laws.proofs.Tests.{clash}
 use Rattle.laws.proofs.Lists.{elem-cons-split, elem_here, elem-later, elem-take, numbers_in}
 use Rattle.circuit.specs.Graph.{Vertex, is_cell, cells_of, waits, ready, ready_cells, fit, Leads, Circle, Forward, InOrder, ListsAll}
 use Rattle.circuit.proofs.Graph.{waits_makes, ready-waits, fit_in_order, left_step, left_none, left_some, left_fit, lists_left, left_start, none-ready, waiting_circle, circle_waits, forward_no_circle, leads_round, left}
@@ -65,7 +66,7 @@ module _ (c : List Vertex) (window : ℕ) (key : ℕ → Key) where
     where
       go : (o : Option ℕ) → next c window key taken ≡ o → ((p : ℕ) → (rest : List ℕ) × (schedule_from c window key fuel (taken ++ p ∷ []) ≡ taken ++ p ∷ [] ++ rest) × (fit c (taken ++ p ∷ []) rest ≡ true)) → (rest : List ℕ) × (onward (next c window key taken) taken (λ p. schedule_from c window key fuel (taken ++ p ∷ [])) ≡ taken ++ rest) × (fit c taken rest ≡ true)
       go none e below = ([], rw e (sym (append-nil taken)), refl)
-      go (some p) e below = let b = below p in (p ∷ b.0, rw e (b.1 ∙ append_assoc taken (p ∷ []) b.0), and_makes _ _ (next-ready taken p e) b.2)
+      go (some p) e below = let b = below p in (p ∷ b.0, rw e (b.1 ∙ append_assoc taken (p ∷ []) b.0), and_from _ _ (next-ready taken p e) b.2)
 
   pub schedule_fit : fit c [] (schedule_of c window key) ≡ true
   unfolding schedule_of
@@ -110,7 +111,7 @@ module _ (c : List Vertex) (window : ℕ) (key : ℕ → Key) where
       waiting_circle c (schedule_of c window key) (schedule_ends h) x.0 x.1
 
   pub no_circle_lists : 1 ≤ window → (Circle c → ⊥) → ListsAll c (schedule_of c window key)
-  no_circle_lists h no-circle x i = true_of (elem x (schedule_of c window key)) (λ e. no-circle (short_circle h x i e))
+  no_circle_lists h no-circle x i = true_from_ne_false (elem x (schedule_of c window key)) (λ e. no-circle (short_circle h x i e))
 
   pub no_circle_count : 1 ≤ window → (Circle c → ⊥) → length (schedule_of c window key) ≡ length (cells_of c)
   no_circle_count h no-circle = omega (arith, schedule_count, lists_left c (schedule_of c window key) (no_circle_lists h no-circle))

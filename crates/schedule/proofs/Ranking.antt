@@ -11,8 +11,9 @@ use lib.ListN.{length, get_or, set, take, drop, length-set, length-drop}
 use lib.Seq.{get_or-set_same, get_or-set_other, get_or-drop}
 use borrow.Rule.Slice.PartMut.{put_mid, mid_of, same_len_mid}
 use borrow.Author.Tests.{eqb-true, eqb-false, ltb-true, ltb-false}
+use Rattle.std.proofs.lemmas.List.{take_rest}
 use Rattle.laws.specs.Digits.{is_set}
-use Rattle.laws.proofs.Parts.{part_rest, put_rest, put_words}
+use Rattle.laws.proofs.Parts.{put_rest, put_words}
 use Rattle.readyset.specs.Sets.{member}
 use Rattle.schedule.specs.Schedule.{Key, key_at}
 use Rattle.schedule.specs.Tree.{ahead, Winner, InWord, Joined, LeavesKept, tree_at, LeafIs, Ranked, Fronted, Kept, LeafPut, LeavesPut}
@@ -56,13 +57,13 @@ leaf_front n limit keys area after w h same entry leaf = leaf_same n limit keys 
 -- what a call of `leaf` asks, and what writing its answer does
 module _ (n limit : ℕ) (keys area : List ℕ) (w : ℕ) (big : 64 ≤ n) (size : 3 * n ≤ length area) (below : w < n / 64 + 1) where
   pub leaf_room : w < length (take (length area - 2 * n) (drop (2 * n) area))
-  leaf_room = rw (part_rest (2 * n) area) (omega (arith, length-drop (2 * n) area))
+  leaf_room = rw (take_rest area (2 * n)) (omega (arith, length-drop (2 * n) area))
 
   pub leaf_put : (best : ℕ) → Winner (key_at keys) (InWord (take (length area - 2 * n) (drop (2 * n) area)) limit w) best → LeafPut n limit keys area w (set area (tree_at n + (n / 64 + 1 + w)) best)
   leaf_put best win =
       record {
         size = length-set area _ best;
-        leaf = subst (Winner (key_at keys) (InWord (drop (2 * n) after) limit w)) (sym (tree_word n (n / 64 + 1 + w) after ∙ get_or-set_same area (tree_at n + (n / 64 + 1 + w)) best 0 (omega arith))) (winner_same (key_at keys) (InWord (drop (2 * n) area) limit w) (InWord (drop (2 * n) after) limit w) best (λ k h. record { here = same k h.word ∙ h.here; word = h.word; below = h.below }) (λ k h. record { here = sym (same k h.word) ∙ h.here; word = h.word; below = h.below }) (rw (part_rest (2 * n) area) at win));
+        leaf = subst (Winner (key_at keys) (InWord (drop (2 * n) after) limit w)) (sym (tree_word n (n / 64 + 1 + w) after ∙ get_or-set_same area (tree_at n + (n / 64 + 1 + w)) best 0 (omega arith))) (winner_same (key_at keys) (InWord (drop (2 * n) area) limit w) (InWord (drop (2 * n) after) limit w) best (λ k h. record { here = same k h.word ∙ h.here; word = h.word; below = h.below }) (λ k h. record { here = sym (same k h.word) ∙ h.here; word = h.word; below = h.below }) (rw (take_rest area (2 * n)) at win));
         others = λ i h. get_or-set_other area (tree_at n + (n / 64 + 1 + w)) i best 0 h;
       }
     where
@@ -121,7 +122,7 @@ module _ (n limit : ℕ) (keys area part : List ℕ) (big : 64 ≤ n) (bound : l
   entry : (w : ℕ) → get_or after (tree_at n + (n / 64 + 1 + w)) 0 ≡ get_or area (tree_at n + (n / 64 + 1 + w)) 0
   entry w =
       sym (tree_word n (n / 64 + 1 + w) after) ∙ ap (λ (l : List ℕ). get_or l (n / 64 + 1 + w) 0) (put_rest (tree_at n) area part fits) ∙ kept (n / 64 + 1 + w) (omega arith)
-      ∙ ap (λ (l : List ℕ). get_or l (n / 64 + 1 + w) 0) (part_rest (tree_at n) area) ∙ tree_word n (n / 64 + 1 + w) area
+      ∙ ap (λ (l : List ℕ). get_or l (n / 64 + 1 + w) 0) (take_rest area (tree_at n)) ∙ tree_word n (n / 64 + 1 + w) area
 
   part_ranked : Ranked n limit keys after (n / 64 + 1)
   part_ranked =
@@ -150,7 +151,7 @@ module _ (n limit : ℕ) (keys area : List ℕ) (w : ℕ) (after : List ℕ) (ra
   -- the entry above it alone may be wrong
   pub refreshed_joined : Joined (key_at keys) (n / 64 + 1) n (take (length after - tree_at n) (drop (tree_at n) after)) 1 ((n / 64 + 1 + w) / 2)
   refreshed_joined =
-      rw (part_rest (tree_at n) after)
+      rw (take_rest after (tree_at n))
       (record {
         room = omega (arith, length-drop (tree_at n) after, put.size, ranked.size, ranked.big);
         nodes = λ v a b. node v a b (eqb v (n / 64 + 1 + w)) refl;
@@ -172,7 +173,7 @@ module _ (n limit : ℕ) (keys area after : List ℕ) (big : 64 ≤ n) (bound : 
   room = omega (arith, put.fronted.size)
 
   pub ranked_part : Joined (key_at keys) (n / 64 + 1) n (take (length after - tree_at n) (drop (tree_at n) after)) (n / 64 + 1) 0
-  ranked_part = rw (part_rest (tree_at n) after) (leaves-joined n limit keys after big bound room put.leaves)
+  ranked_part = rw (take_rest after (tree_at n)) (leaves-joined n limit keys after big bound room put.leaves)
 
   pub ranked_whole : (part : List ℕ) → length part ≡ length (mid_of (tree_at n) (length after - tree_at n) after) → Joined (key_at keys) (n / 64 + 1) n part 1 0 → LeavesKept (n / 64 + 1) (take (length after - tree_at n) (drop (tree_at n) after)) part → Ranked n limit keys (put_mid (tree_at n) (length after - tree_at n) after part) (n / 64 + 1) × Fronted n area (put_mid (tree_at n) (length after - tree_at n) after part)
   ranked_whole part same joined kept =

@@ -10,7 +10,7 @@ use lib.Dec.{eqb, ltb}
 use lib.ListN.{length, get_or, take}
 use lib.Seq.{take-nil}
 use borrow.Author.Tests.{lt-ltb, leb-false}
-use Rattle.laws.proofs.Tests.{neither}
+use Rattle.std.proofs.lemmas.Bool.{or_parts}
 use Rattle.laws.proofs.Lists.{none_at}
 use Rattle.laws.proofs.Areas.{length_up}
 use Rattle.laws.proofs.Storing.{up_at}
@@ -64,15 +64,15 @@ first_below : (m : ℕ) (t : Bool) (count a b : ℕ) → some_not_below m (wires
 first_below m false count a b e = omega arith
 first_below m true zero a b e = omega arith
 first_below m true (suc count) a b e =
-    rw (lt-ltb 0 (suc count) (omega arith)) (word_below m a (neither (not_below m (wire_of a)) (some_not_below m (take count (wire_of b ∷ []))) e).0)
+    rw (lt-ltb 0 (suc count) (omega arith)) (word_below m a (or_parts (not_below m (wire_of a)) (some_not_below m (take count (wire_of b ∷ []))) e).0)
 
 second_below : (m : ℕ) (t : Bool) (count a b : ℕ) → some_not_below m (wires_by t count a b) ≡ false → word_by t count 1 b < m + 2
 second_below m false count a b e = omega arith
 second_below m true zero a b e = omega arith
 second_below m true (suc zero) a b e = omega arith
 second_below m true (suc (suc count)) a b e =
-    let rest = (neither (not_below m (wire_of a)) (some_not_below m (take (suc count) (wire_of b ∷ []))) e).1 in
-    rw (lt-ltb 1 (suc (suc count)) (omega arith)) (word_below m b (neither (not_below m (wire_of b)) (some_not_below m (take count [])) rest).0)
+    let rest = (or_parts (not_below m (wire_of a)) (some_not_below m (take (suc count) (wire_of b ∷ []))) e).1 in
+    rw (lt-ltb 1 (suc (suc count)) (omega arith)) (word_below m b (or_parts (not_below m (wire_of b)) (some_not_below m (take count [])) rest).0)
 
 -- the words of record k
 
@@ -118,12 +118,12 @@ module _ (nodes : List ℕ) (n : ℕ) where
       size = length_up (node_at nodes) 0 n
 
       none : node_broken (length (nodes_of nodes n)) (get_or (nodes_of nodes n) k no_node) ≡ false
-      none = none_at (node_broken (length (nodes_of nodes n))) (nodes_of nodes n) no_node k (omega (arith, size)) (neither _ _ e).0
+      none = none_at (node_broken (length (nodes_of nodes n))) (nodes_of nodes n) no_node k (omega (arith, size)) (or_parts _ _ e).0
 
       inside : some_not_below n (wires_by (cell_at nodes k) (get_or nodes (9 * k + 1) 0) (get_or nodes (9 * k + 7 + 0) 0) (get_or nodes (9 * k + 7 + 1) 0)) ≡ false
       inside =
           rw (size, node_is k h, wires_words nodes k) at
-          (neither (record_broken (get_or (nodes_of nodes n) k no_node)) (some_not_below (length (nodes_of nodes n)) (wires_of (get_or (nodes_of nodes n) k no_node))) none).1
+          (or_parts (record_broken (get_or (nodes_of nodes n) k no_node)) (some_not_below (length (nodes_of nodes n)) (wires_of (get_or (nodes_of nodes n) k no_node))) none).1
 
       go : (p : ℕ) → p < 2 → wire_at nodes k p < n + 2
       go zero g = first_below n (cell_at nodes k) (get_or nodes (9 * k + 1) 0) (get_or nodes (9 * k + 7 + 0) 0) (get_or nodes (9 * k + 7 + 1) 0) inside

@@ -11,9 +11,9 @@ use lib.Dec.{ltb}
 use lib.ListN.{length, take, drop}
 use lib.Seq.{take-nil, take_all}
 use borrow.Author.Tests.{ltb-true, ltb-false}
+use Rattle.std.proofs.lemmas.List.{take_rest}
 use Rattle.laws.specs.Lists.{keep, numbers}
 use Rattle.laws.proofs.Lists.{numbers-empty}
-use Rattle.laws.proofs.Parts.{part_rest}
 use Rattle.std.specs.Prelude.{Option, None, Some}
 use Rattle.std.specs.Option.{IsSome}
 use Rattle.readyset.specs.Sets.{member, First, FirstIs}
@@ -101,7 +101,7 @@ take_least w m l e = go (ltb w m) refl
 module _ (n : ℕ) (area keys : List ℕ) (cells : ReadyCells) (counted : Counted n area cells) (first : ℕ) (f : First (member (take (length area - 2 * n) (drop (2 * n) area))) cells.from n first) where
   whole : First (member (drop (2 * n) area)) 0 n first
   whole =
-      let g : First (member (drop (2 * n) area)) cells.from n first = rw (part_rest (2 * n) area) at f in
+      let g : First (member (drop (2 * n) area)) cells.from n first = rw (take_rest area (2 * n)) at f in
       record { from = omega arith; none = λ j a b c. side g j b c (ltb j cells.from) refl; here = g.here }
     where
       side : First (member (drop (2 * n) area)) cells.from n first → (j : ℕ) → j < first → j < n → (t : Bool) → ltb j cells.from ≡ t → member (drop (2 * n) area) j ≡ false
@@ -109,7 +109,7 @@ module _ (n : ℕ) (area keys : List ℕ) (cells : ReadyCells) (counted : Counte
       side g j b c false e = g.none j (ltb-false j cells.from e) b c
 
   pub picked_first : First (member (take (length area - 2 * n) (drop (2 * n) area))) 0 n first
-  picked_first = rw (part_rest (2 * n) area) whole
+  picked_first = rw (take_rest area (2 * n)) whole
 
   pub picked_below : 1 ≤ cells.number → first < n
   picked_below h = go (ltb first n) refl
@@ -124,7 +124,7 @@ module _ (n : ℕ) (area keys : List ℕ) (cells : ReadyCells) (counted : Counte
   pub picked_is : 1 ≤ cells.number → (window most : ℕ) → most ≡ min window cells.number → (node : ℕ) → some node ≡ pick (key_at keys) (take most (numbers (member (take (length area - 2 * n) (drop (2 * n) area))) 0 n)) → (p : Picked) → p.node ≡ node → p.first ≡ first → PickedIs n area keys window p
   picked_is h window most m node e p q r =
       record {
-        node_is = ap some q ∙ (rw (part_rest (2 * n) area) at e) ∙ ap (λ (k : ℕ). pick (key_at keys) (take k (ready_in n area))) m ∙ ap (pick (key_at keys)) (take_least window cells.number (ready_in n area) counted.number);
+        node_is = ap some q ∙ (rw (take_rest area (2 * n)) at e) ∙ ap (λ (k : ℕ). pick (key_at keys) (take k (ready_in n area))) m ∙ ap (pick (key_at keys)) (take_least window cells.number (ready_in n area) counted.number);
         low = omega (arith, picked_below h);
         none = λ j l. whole.none j (omega arith) (omega arith) (omega (arith, picked_below h));
       }

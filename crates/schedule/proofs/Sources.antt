@@ -11,7 +11,8 @@ use Rattle.circuit.specs.Graph.{is_cell, reads_of, waits, free, ready}
 use Rattle.schedule.specs.Call.{graph_in}
 use Rattle.schedule.proofs.Records.{wire_reads, length_in, cell-is, reads_is}
 use Rattle.schedule.specs.Areas.{cell_at, wire_at, Wired, only_cell, source_of, one, both, word_passes, reading, Sourced}
-use Rattle.laws.proofs.Tests.{clash, true_of, false_of}
+use Rattle.std.proofs.lemmas.Bool.{false_from_ne_true, true_from_ne_false}
+use Rattle.laws.proofs.Tests.{clash}
 use Rattle.circuit.proofs.Graph.{cell_below, waits-cell}
 
 module _ (nodes : List ℕ) (n : ℕ) where
@@ -38,11 +39,11 @@ module _ (nodes : List ℕ) (n : ℕ) where
   pub source_reader : (e x : ℕ) → source_of nodes e ≡ suc x → cell_at nodes ((e - 1) / 2) ≡ true
   unfolding source_of
   source_reader e x h =
-      true_of (cell_at nodes ((e - 1) / 2)) (λ z. omega (arith, rw (wire_cell ((e - 1) / 2) ((e - 1) % 2) z) at h))
+      true_from_ne_false (cell_at nodes ((e - 1) / 2)) (λ z. omega (arith, rw (wire_cell ((e - 1) / 2) ((e - 1) % 2) z) at h))
 
   not-cell : (taken : List ℕ) (x : ℕ) → eqb (get_or nodes (9 * x) 0) 2 ≡ false → waits (graph_in nodes n) taken x ≡ false
   unfolding cell_at
-  not-cell taken x e = false_of (waits (graph_in nodes n) taken x) (λ w. clash (cell_of x (waits-cell (graph_in nodes n) taken x w)) e)
+  not-cell taken x e = false_from_ne_true (waits (graph_in nodes n) taken x) (λ w. clash (cell_of x (waits-cell (graph_in nodes n) taken x w)) e)
 
   -- a wire of a cell: what it leaves to wait for
   wire_free : (taken : List ℕ) (w : ℕ) (l : List ℕ) → free (graph_in nodes n) taken (wire_reads w ++ l) ≡ not (word_passes (waits (graph_in nodes n) taken) (only_cell nodes w)) && free (graph_in nodes n) taken l

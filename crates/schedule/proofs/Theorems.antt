@@ -7,8 +7,8 @@ use mathlib.Core.Bool.{Bool, true, false, not}
 use mathlib.Core.List.{List, [], ◌∷◌}
 use native.Mathlib.Omega.{arith}
 use lib.ListN.{length, get_or}
+use Rattle.std.proofs.lemmas.Bool.{false_from_ne_true}
 use Rattle.laws.specs.Lists.{some}
-use Rattle.laws.proofs.Tests.{false_of}
 use Rattle.circuit.specs.declared.refusals.Refusal.TheVariants.{Broken, Circle as InCircle}
 use Rattle.circuit.specs.declared.records.BoolNode.{BoolNode}
 use Rattle.circuit.specs.declared.records.BoolWire.{BoolWire}
@@ -91,7 +91,7 @@ module _ (nodes outputs : List ℕ) (window : ℕ) (keys : List ℕ) (ready succ
   accepts : (Circle (graph_in nodes (length nodes / 9)) → ⊥) → schedule_fault nodes outputs window keys ready successors order ≡ Ok tt
   unfolding circle_fault order_in
   accepts no-circle =
-      last ∙ ap (λ (t : Bool). refuse_if t InCircle) (false_of _ (λ q. no-circle (out_circle (graph_in nodes (length nodes / 9)) window (key_at keys) at_least_one q)))
+      last ∙ ap (λ (t : Bool). refuse_if t InCircle) (false_from_ne_true _ (λ q. no-circle (out_circle (graph_in nodes (length nodes / 9)) window (key_at keys) at_least_one q)))
 
   no_circle_in : schedule_fault nodes outputs window keys ready successors order ≡ Ok tt → Circle (graph_in nodes (length nodes / 9)) → ⊥
   no_circle_in e o =

@@ -9,8 +9,9 @@ use native.Mathlib.Omega.{arith}
 use native.Mathlib.Nat.{zero-add, add-zero, add-suc, suc-add}
 use native.Mathlib.Numerals.{add-one}
 use lib.ListN.{length}
+use Rattle.std.proofs.lemmas.Bool.{false_from_ne_true}
 use Rattle.laws.specs.Lists.{elem, keep, numbers}
-use Rattle.laws.proofs.Tests.{clash, false_of}
+use Rattle.laws.proofs.Tests.{clash}
 use Rattle.laws.proofs.Lists.{in_numbers, numbers_in, numbers-empty}
 use Rattle.circuit.specs.Graph.{Vertex, is_cell, reads_of, cells_of, waits, ready, ready_cells, Forward}
 use Rattle.circuit.proofs.Graph.{cell_below, waits-cell, waits_fresh, waits_makes, ready-waits, ready_makes, free_makes, none-ready}
@@ -33,15 +34,15 @@ module _ (c : List Vertex) (key : ℕ → Key) (forward : Forward c) where
   -- what is below i is taken, and i itself is not
   first_taken : (i k : ℕ) → k < i → waits c (first i) k ≡ false
   unfolding first
-  first_taken i k h = false_of (waits c (first i) k) (λ w. clash (in_numbers (is_cell c) 0 i k (waits-cell c (first i) k w) (omega arith) (omega arith)) (waits_fresh c (first i) k w))
+  first_taken i k h = false_from_ne_true (waits c (first i) k) (λ w. clash (in_numbers (is_cell c) 0 i k (waits-cell c (first i) k w) (omega arith) (omega arith)) (waits_fresh c (first i) k w))
 
   first-ready : (i : ℕ) → is_cell c i ≡ true → ready c (first i) i ≡ true
   unfolding first
   first-ready i h =
-      ready_makes c (first i) i (waits_makes c (first i) i h (false_of (elem i (first i)) (λ t. omega (arith, (numbers_in (is_cell c) 0 i i t).2)))) (free_makes c (first i) (reads_of c i) reads)
+      ready_makes c (first i) i (waits_makes c (first i) i h (false_from_ne_true (elem i (first i)) (λ t. omega (arith, (numbers_in (is_cell c) 0 i i t).2)))) (free_makes c (first i) (reads_of c i) reads)
     where
       reads : (y : ℕ) → elem y (reads_of c i) ≡ true → waits c (first i) y ≡ false
-      reads y m = false_of (waits c (first i) y) (λ w. clash w (first_taken i y (forward i y (record { reader = h; source = waits-cell c (first i) y w; among = m }))))
+      reads y m = false_from_ne_true (waits c (first i) y) (λ w. clash w (first_taken i y (forward i y (record { reader = h; source = waits-cell c (first i) y w; among = m }))))
 
   first_head : (i m : ℕ) → i + suc m ≡ length c → is_cell c i ≡ true → next c 1 key (first i) ≡ some i
   unfolding next ready_cells pick best numbers
@@ -49,7 +50,7 @@ module _ (c : List Vertex) (key : ℕ → Key) (forward : Forward c) where
       rw (← e, numbers-append (ready c (first i)) 0 i (suc m), numbers-empty (ready c (first i)) 0 i below, zero-add, first-ready i h)
     where
       below : (k : ℕ) → 0 ≤ k → k < 0 + i → ready c (first i) k ≡ false
-      below k a b = false_of (ready c (first i) k) (λ r. clash (ready-waits c (first i) k r) (first_taken i k (omega arith)))
+      below k a b = false_from_ne_true (ready c (first i) k) (λ r. clash (ready-waits c (first i) k r) (first_taken i k (omega arith)))
 
   first_more : (i : ℕ) → first (suc i) ≡ first i ++ keep (is_cell c i) i []
   unfolding first numbers
@@ -76,7 +77,7 @@ module _ (c : List Vertex) (key : ℕ → Key) (forward : Forward c) where
       ap (λ (k : ℕ). schedule_from c 1 key fuel (first k)) at ∙ at-end c 1 key fuel (first (length c)) (none-ready c (first (length c)) nothing)
     where
       nothing : (k : ℕ) → waits c (first (length c)) k ≡ false
-      nothing k = false_of (waits c (first (length c)) k) (λ w. clash w (first_taken (length c) k (cell_below c k (waits-cell c (first (length c)) k w))))
+      nothing k = false_from_ne_true (waits c (first (length c)) k) (λ w. clash w (first_taken (length c) k (cell_below c k (waits-cell c (first (length c)) k w))))
   stored (suc m) i fuel e h = stored_more m (stored m) i fuel e h
 
   pub window_one : schedule_of c 1 key ≡ cells_of c

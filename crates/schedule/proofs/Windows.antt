@@ -11,10 +11,10 @@ use lib.Dec.{ltb}
 use lib.ListN.{length, get_or, take, drop}
 use lib.Seq.{take_at, take_all}
 use borrow.Author.Tests.{ltb-true, ltb-false}
+use Rattle.std.proofs.lemmas.List.{nil_from_length, take_rest}
 use Rattle.laws.specs.Lists.{numbers}
-use Rattle.laws.proofs.Parts.{part_rest}
 use Rattle.laws.proofs.Tests.{clash}
-use Rattle.laws.proofs.Lists.{numbers_same, numbers-empty, empty_of_length}
+use Rattle.laws.proofs.Lists.{numbers_same, numbers-empty}
 use Rattle.std.specs.Prelude.{Option, None, Some}
 use Rattle.std.specs.Option.{IsSome}
 use Rattle.readyset.specs.Sets.{member, Levels, First, FirstIs, Last, LastIs}
@@ -48,13 +48,13 @@ module _ (n : ℕ) (keys area : List ℕ) (at : Window) (t : Tracked n keys area
     pub last_some : (r : Option ℕ) → LastIs (member (take (length area - 2 * n) (drop (2 * n) area))) at.limit r → IsSome r
     last_some (Some x) last = refl
     last_some None last =
-        let end : Last (member (drop (2 * n) area)) at.limit 0 = rw (part_rest (2 * n) area) at last in
+        let end : Last (member (drop (2 * n) area)) at.limit 0 = rw (take_rest area (2 * n)) at last in
         let z : length (numbers (member (drop (2 * n) area)) 0 at.limit) ≡ 0 = ap length (numbers-empty (member (drop (2 * n) area)) 0 at.limit (λ j a b. end.none j a (omega arith))) in
         absurd (omega (arith, t.inside, z))
 
     module _ (e : ℕ) (last : Last (member (take (length area - 2 * n) (drop (2 * n) area))) at.limit (suc e)) where
       end : Last (member (drop (2 * n) area)) at.limit (suc e)
-      end = rw (part_rest (2 * n) area) at last
+      end = rw (take_rest area (2 * n)) at last
 
       pub end_below : e < n
       end_below = omega (arith, end.upto, t.ranked.bound)
@@ -76,13 +76,13 @@ module _ (n : ℕ) (keys area : List ℕ) (at : Window) (t : Tracked n keys area
     pub next_some : (r : Option ℕ) → FirstIs (member (take (length area - 2 * n) (drop (2 * n) area))) at.limit n r → IsSome r
     next_some (Some x) first = refl
     next_some None first =
-        let begin : First (member (drop (2 * n) area)) at.limit n n = rw (part_rest (2 * n) area) at first in
+        let begin : First (member (drop (2 * n) area)) at.limit n n = rw (take_rest area (2 * n)) at first in
         let z = count_none (member (drop (2 * n) area)) at.limit n t.ranked.bound (λ j a b. begin.none j a b b) in
         absurd (omega (arith, t.number, t.inside, z))
 
   module _ (more : at.inside < at.number) (node : ℕ) (next_below : node < n) (first : First (member (take (length area - 2 * n) (drop (2 * n) area))) at.limit n node) where
     begin : First (member (drop (2 * n) area)) at.limit n node
-    begin = rw (part_rest (2 * n) area) at first
+    begin = rw (take_rest area (2 * n)) at first
 
     pub grown_stale : Ranked n (node + 1) keys area (node / 64)
     grown_stale = ranked_limit n at.limit keys area (node + 1) (node / 64) t.ranked (omega (arith, next_below)) (λ k d h l. omega (arith, begin.from)) (λ k d h l. below k d h l (ltb k at.limit) refl)
@@ -110,7 +110,7 @@ module _ (n : ℕ) (keys area : List ℕ) (at : Window) (t : Tracked n keys area
         go : (b : Bool) → ltb window at.number ≡ b → take window (numbers (member (drop (2 * n) area)) 0 at.limit ++ numbers (member (drop (2 * n) area)) at.limit (n - at.limit)) ≡ numbers (member (drop (2 * n) area)) 0 at.limit
         go true q = take_at (numbers (member (drop (2 * n) area)) 0 at.limit) _ window (omega (arith, t.inside, full, ltb-true window at.number q))
         go false q =
-            let z : numbers (member (drop (2 * n) area)) at.limit (n - at.limit) ≡ [] = empty_of_length _ (omega (arith, split (member (drop (2 * n) area)) at.limit n t.ranked.bound, t.number, t.inside, full, ltb-false window at.number q)) in
+            let z : numbers (member (drop (2 * n) area)) at.limit (n - at.limit) ≡ [] = nil_from_length _ (omega (arith, split (member (drop (2 * n) area)) at.limit n t.ranked.bound, t.number, t.inside, full, ltb-false window at.number q)) in
             ap (λ (l : List ℕ). take window (numbers (member (drop (2 * n) area)) 0 at.limit ++ l)) z ∙ ap (take window) (append-nil (numbers (member (drop (2 * n) area)) 0 at.limit)) ∙ take_all window (numbers (member (drop (2 * n) area)) 0 at.limit) (omega (arith, t.inside, full))
 
     pub window_picked : 1 ≤ window → at.number ≢ 0 → (1 ≤ get_or area (tree_at n + 1) 0) × (some (get_or area (tree_at n + 1) 0 - 1) ≡ pick (key_at keys) (take window (ready_in n area)))

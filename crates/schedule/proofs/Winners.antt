@@ -8,7 +8,8 @@ use native.Mathlib.Omega.{arith}
 use native.Mathlib.Numerals.{add-one}
 use lib.Dec.{ltb}
 use borrow.Author.Tests.{ltb-true, ltb-false, lt-ltb, le-ltb}
-use Rattle.laws.proofs.Tests.{clash, false_of}
+use Rattle.std.proofs.lemmas.Bool.{false_from_ne_true}
+use Rattle.laws.proofs.Tests.{clash}
 use Rattle.schedule.specs.Schedule.{Key, above}
 use Rattle.schedule.specs.Tree.{sooner, ahead, Before, Leads, Winner}
 use Rattle.schedule.proofs.Greatest.{above_asym, not-above, not_self}
@@ -29,7 +30,7 @@ module _ (key : ℕ → Key) where
 
   -- a greater key, or the smaller number where the other's is not greater
   before_key : (x y : ℕ) → above (key x) (key y) ≡ true → Before key x y
-  before_key x y h = record { greatest = false_of _ (λ q. above_asym (key x) (key y) h q); smallest = λ e. absurd (clash h e) }
+  before_key x y h = record { greatest = false_from_ne_true _ (λ q. above_asym (key x) (key y) h q); smallest = λ e. absurd (clash h e) }
 
   before-number : (x y : ℕ) → above (key y) (key x) ≡ false → x ≤ y → Before key x y
   before-number x y h l = record { greatest = h; smallest = λ _. l }

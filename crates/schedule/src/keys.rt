@@ -1,5 +1,5 @@
 // Keys: three numbers for each node, compared number by number.
-// The keys and the count of nodes stay two parameters: over a struct of both each clause would read `keys.entry.words.now` and `keys.entry.count`, no plainer.
+// The keys and the count of nodes stay two parameters: over a struct of both each clause would read `keys.entry.words.now` and `keys.entry.count`, which is longer than the one fact that would go.
 ghost use Rattle.std.specs.Prelude.{◌≡◌, cond, ◌+◌, ◌*◌, ◌<◌, length};
 ghost use Rattle.schedule.specs.Schedule.{above, key_at};
 ghost use Rattle.schedule.specs.Areas.{key_of};

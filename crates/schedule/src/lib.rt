@@ -5,7 +5,8 @@
 ghost use Rattle.std.specs.Prelude.{◌≡◌};
 ghost use Rattle.schedule.specs.Call.{leaves, schedule_call};
 
-use crate::ordering::{call_fault, clear_all, order_or_circle};
+use crate::ordering::{call_fault, order_or_circle};
+use circuit::areas::clear_all;
 use circuit::refusals::Refusal;
 
 pub mod keys;

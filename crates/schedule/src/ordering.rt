@@ -1,11 +1,13 @@
 // The checks of the call, and the order or a circle.
-ghost use Rattle.std.specs.Prelude.{◌≡◌, ◌+◌, ◌*◌, ◌/◌, ◌^◌, ◌<◌, length, replicate};
+ghost use Rattle.std.specs.Prelude.{◌≡◌, ◌+◌, ◌*◌, ◌/◌, ◌^◌, ◌<◌, length};
 ghost use Rattle.circuit.specs.Graph.{cells_of};
 ghost use Rattle.schedule.specs.Call.{room, call_fault, circle_fault, graph_in, order_in, leaves, left_by};
 ghost use Rattle.schedule.specs.Areas.{Orderable};
 
+use crate::reads::Netlist;
 use crate::taking::{count_cells, fresh_order};
 use circuit::check::check_records;
+use circuit::nodes::Nodes;
 use circuit::refusals::Refusal;
 
 // Whether the areas have room for n nodes.
@@ -42,14 +44,6 @@ pub fn call_fault(
     Ok(())
 }
 
-pub fn clear_all(ready: &mut [usize], successors: &mut [usize], order: &mut [usize])
-    ensures { (ready.new ≡ replicate (length ready.old) 0) × (successors.new ≡ replicate (length successors.old) 0) × (order.new ≡ replicate (length order.old) 0) }
-{
-    ready.fill(0);
-    successors.fill(0);
-    order.fill(0);
-}
-
 // The order, or 17 where some cells read in a circle.
 pub fn order_or_circle(
     nodes: &[usize],
@@ -62,11 +56,13 @@ pub fn order_or_circle(
     requires { Orderable nodes.now (length keys.now) window (length ready.old) (length successors.old) (length order.old) }
     ensures { leaves result ready.new successors.new order.new ≡ left_by (circle_fault nodes.now (length nodes.now / 9) window keys.now) (length (cells_of (graph_in nodes.now (length nodes.now / 9)))) (order_in nodes.now (length nodes.now / 9) window keys.now) (length ready.old) (length successors.old) (length order.old) }
 {
-    let count = nodes.len() / 9;
-    let taken = fresh_order(nodes, count, keys, window, ready, successors, order);
+    let netlist = Netlist {
+        nodes: Nodes::of(nodes),
+    };
+    let taken = fresh_order(netlist, keys, window, ready, successors, order);
     ready.fill(0);
     successors.fill(0);
-    if taken != count_cells(nodes, count) {
+    if taken != count_cells(netlist.nodes) {
         order.fill(0);
         return Err(Refusal::Circle);
     }

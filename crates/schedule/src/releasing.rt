@@ -60,7 +60,7 @@ impl Window {
         ensures { Released count area.old next.now node area.new × Tracked count keys.now area.new result }
     {
         let mut at = self;
-        // Words of a lent area, as the C interface fixes them: each read names the next of its chain, and zero ends it.
+        // No heap, and the areas are lent: a chain goes by numbers in words, each read names the next, and 0 ends it.
         let mut edge = area[2 * node + 1];
         while edge != 0 {
             at = at.lower(area, keys, count, (edge - 1) / 2);

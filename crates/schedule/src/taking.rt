@@ -2,14 +2,15 @@
 ghost use Rattle.std.specs.Prelude.{◌≡◌, ◌≢◌, ◌+◌, ◌*◌, ◌<◌, ◌≤◌, min, length, drop};
 ghost use Rattle.circuit.specs.Graph.{cells_of};
 ghost use Rattle.schedule.specs.Call.{graph_in};
-ghost use Rattle.schedule.specs.Areas.{Wired, Counted, Startable, Scheduled, Filled, Listed};
+ghost use Rattle.schedule.specs.Areas.{Counted, Startable, Scheduled, Filled, Listed};
 ghost use Rattle.schedule.specs.Taking.{Took, Resumable, Finished};
 ghost use Rattle.schedule.specs.Tree.{Tracked};
 
 use crate::picking::pick_next;
-use crate::reads::link_all;
+use crate::reads::Netlist;
 use crate::waiting::{ReadyCells, open_all, release};
 use crate::window::Window;
+use circuit::nodes::Nodes;
 
 // How many cells are taken, and what is known of the ready ones.
 #[derive(Clone, Copy)]
@@ -42,6 +43,7 @@ pub fn take_scanning(
     let mut taken = 0;
     let mut cells = start;
     let mut budget = count;
+    // A `while`: how many cells become ready shows only as they are taken.
     while cells.number != 0 {
         let cost = scanned(count, window, cells.number);
         let Some(left) = budget.checked_sub(cost) else {
@@ -77,6 +79,7 @@ pub fn take_ranked(
     let mut taken = done;
     let mut at = start;
     let root = 2 * count + 2 * (count / 64 + 1) + 1;
+    // A `while`: how many cells become ready shows only as they are taken.
     while at.number != 0 {
         let node = area[root] - 1;
         order[taken] = node;
@@ -108,52 +111,45 @@ pub fn take_all(
     take_ranked(area, next, keys, order, count, window, first.taken, at)
 }
 
-// How many cells the circuit has. By a loop, since with `filter` and `count` over the range the proof did not close.
-pub fn count_cells(nodes: &[usize], count: usize) -> usize
-    requires { 9 * count ≤ length nodes.now }
-    ensures { result ≡ length (cells_of (graph_in nodes.now count)) }
+// How many cells the circuit has.
+pub fn count_cells(nodes: Nodes) -> usize
+    ensures { result ≡ length (cells_of (graph_in nodes.entry.words.now nodes.entry.count)) }
 {
-    let mut cells = 0;
-    for node in 0..count {
-        if nodes[9 * node] == 2 {
-            cells += 1;
-        }
-    }
-    cells
+    (0..nodes.count)
+        .filter(|&node| nodes.words[9 * node] == 2)
+        .count()
 }
 
 // The order of the cells, in the first records of the order area; returns how many.
 pub fn order_cells(
-    nodes: &[usize],
-    count: usize,
+    netlist: Netlist,
     keys: &[u32],
     window: usize,
     area: &mut [usize],
     next: &mut [usize],
     order: &mut [usize],
 ) -> usize
-    requires { (9 * count ≤ length nodes.now) × Wired nodes.now count × (3 * count ≤ length area.old) × (2 * count < length next.old) × (3 * count ≤ length keys.now) × (count ≤ length order.old) × (1 ≤ window) }
-    ensures { Filled nodes.now count keys.now window order.old order.new result }
+    requires { (3 * netlist.nodes.count ≤ length area.old) × (2 * netlist.nodes.count < length next.old) × (3 * netlist.nodes.count ≤ length keys.now) × (netlist.nodes.count ≤ length order.old) × (1 ≤ window) }
+    ensures { Filled netlist.entry.nodes.words.now netlist.entry.nodes.count keys.now window order.old order.new result }
 {
     area.fill(0);
-    link_all(nodes, count, area, next);
-    let cells = open_all(nodes, count, area, next);
-    take_all(area, next, keys, order, count, window, cells)
+    netlist.link_all(area, next);
+    let cells = open_all(netlist, area, next);
+    take_all(area, next, keys, order, netlist.nodes.count, window, cells)
 }
 
 // The same with zeros after the order.
 pub fn fresh_order(
-    nodes: &[usize],
-    count: usize,
+    netlist: Netlist,
     keys: &[u32],
     window: usize,
     area: &mut [usize],
     next: &mut [usize],
     order: &mut [usize],
 ) -> usize
-    requires { (9 * count ≤ length nodes.now) × Wired nodes.now count × (3 * count ≤ length area.old) × (2 * count < length next.old) × (3 * count ≤ length keys.now) × (count ≤ length order.old) × (1 ≤ window) }
-    ensures { Listed nodes.now count keys.now window order.new result }
+    requires { (3 * netlist.nodes.count ≤ length area.old) × (2 * netlist.nodes.count < length next.old) × (3 * netlist.nodes.count ≤ length keys.now) × (netlist.nodes.count ≤ length order.old) × (1 ≤ window) }
+    ensures { Listed netlist.entry.nodes.words.now netlist.entry.nodes.count keys.now window order.new result }
 {
     order.fill(0);
-    order_cells(nodes, count, keys, window, area, next, order)
+    order_cells(netlist, keys, window, area, next, order)
 }

@@ -14,7 +14,7 @@ pub fn first_of(keys: &[u32], a: usize, b: usize) -> usize
     Best::of(keys, a).better(keys, b).node
 }
 
-// Of two entries the better.
+// Of two entries the better. An entry is one word of the lent area: 0 for no node, or the node's number and 1.
 pub fn better_entry(keys: &[u32], a: usize, b: usize) -> usize
     requires { (3 * a ≤ length keys.now) × (3 * b ≤ length keys.now) }
     ensures { result ≡ ahead (key_at keys.now) a b }
@@ -34,7 +34,7 @@ pub fn leaf(ready: &[usize], keys: &[u32], limit: usize, w: usize) -> usize
     ensures { Winner (key_at keys.now) (InWord ready.now limit w) result }
 {
     let mut best = 0;
-    // Bit after bit that is set: their number is not known before.
+    // A `while`, bit after bit that is set: an iterator over them would be this loop again, in its `next`.
     let mut i = 64 * w;
     let mut rest = ready[w];
     while rest != 0 {
@@ -67,6 +67,7 @@ pub fn climb(tree: &mut [usize], keys: &[u32], leaves: usize, nodes: usize, from
     ensures { Joined (key_at keys.now) leaves nodes tree.new 1 0 × LeavesKept leaves tree.old tree.new }
 {
     let mut v = from;
+    // A `while`: from an entry to the one above it, and only as far as entries change.
     while v != 0 && join(tree, keys, v) {
         v /= 2;
     }

@@ -2,10 +2,11 @@
 ghost use Rattle.std.specs.Prelude.{◌≡◌, [], true, ◌&&◌, ◌+◌, ◌*◌, ◌^◌, ◌<◌, ◌≤◌, min, eqb, length, get_or, drop};
 ghost use Rattle.readyset.specs.Sets.{Levels};
 ghost use Rattle.schedule.specs.Call.{graph_in};
-ghost use Rattle.schedule.specs.Areas.{Wired, source_of, Linked, Empty, Running, Counted, Moved, Noted, Notable, Lowered, Opened, Releasable, Released};
+ghost use Rattle.schedule.specs.Areas.{source_of, Linked, Empty, Running, Counted, Moved, Noted, Notable, Lowered, Opened, Releasable, Released};
 ghost use Rattle.schedule.specs.Tree.{Kept};
 
-use crate::reads::cells_read;
+use crate::reads::Netlist;
+use circuit::nodes::Nodes;
 
 // What is known of the ready cells: none is below `from`, and `number` counts them.
 #[derive(Clone, Copy)]
@@ -56,7 +57,7 @@ pub fn note(
     cells
 }
 
-// One read less of the node waits; the last one makes it ready.
+// One read less of the node waits; the last one makes it ready. `Window::lower` keeps the tree too, and asks for keys.
 pub fn lower(area: &mut [usize], count: usize, node: usize, cells: ReadyCells) -> ReadyCells
     requires { Notable count area.old node cells × (1 ≤ get_or area.old (2 * node) 0) }
     ensures { Lowered count area.old node area.new × Counted count area.new result × Kept count area.old area.new }
@@ -66,6 +67,7 @@ pub fn lower(area: &mut [usize], count: usize, node: usize, cells: ReadyCells) -
 }
 
 // Takes the ready node: each cell that reads it waits for one read less, and it leaves the set.
+// Beside `Window::release`, which keeps the tree too: one function over both would need a trait with what each keeps as a ghost member, more than two short loops.
 pub fn release(
     area: &mut [usize],
     next: &[usize],
@@ -77,7 +79,7 @@ pub fn release(
     ensures { Released count area.old next.now node area.new × Counted count area.new result }
 {
     let mut left = cells;
-    // Words of a lent area, as the C interface fixes them: each read names the next of its chain, and zero ends it.
+    // No heap, and the areas are lent: a chain goes by numbers in words, each read names the next, and 0 ends it.
     let mut edge = area[2 * node + 1];
     while edge != 0 {
         left = lower(area, count, (edge - 1) / 2, left);
@@ -98,32 +100,27 @@ pub fn is_ready(kind: usize, left: usize) -> bool
 }
 
 // What a node waits for, and whether it is ready, before anything is taken.
-pub fn open(
-    nodes: &[usize],
-    count: usize,
-    area: &mut [usize],
-    node: usize,
-    cells: ReadyCells,
-) -> ReadyCells
-    requires { (9 * count ≤ length nodes.now) × Wired nodes.now count × Notable count area.old node cells }
-    ensures { Opened nodes.now count area.old node area.new × Counted count area.new result }
+pub fn open(netlist: Netlist, area: &mut [usize], node: usize, cells: ReadyCells) -> ReadyCells
+    requires { Notable netlist.nodes.count area.old node cells }
+    ensures { Opened netlist.entry.nodes.words.now netlist.entry.nodes.count area.old node area.new × Counted netlist.entry.nodes.count area.new result }
 {
-    let left = cells_read(nodes, count, node);
-    let up = is_ready(nodes[9 * node], left);
+    let Nodes { words, count } = netlist.nodes;
+    let left = netlist.cells_read(node);
+    let up = is_ready(words[9 * node], left);
     note(area, count, node, left, up, cells)
 }
 
 // The same of every node, from an empty set.
-pub fn open_all(nodes: &[usize], count: usize, area: &mut [usize], next: &[usize]) -> ReadyCells
-    requires { (9 * count ≤ length nodes.now) × Wired nodes.now count × (3 * count ≤ length area.old) × (2 * count < length next.now) × Linked (source_of nodes.now) count (2 * count) area.old next.now × Empty count area.old }
-    ensures { Running (source_of nodes.now) (graph_in nodes.now count) [] area.new next.now × Counted count area.new result }
+pub fn open_all(netlist: Netlist, area: &mut [usize], next: &[usize]) -> ReadyCells
+    requires { (3 * netlist.nodes.count ≤ length area.old) × (2 * netlist.nodes.count < length next.now) × Linked (source_of netlist.nodes.words.now) netlist.nodes.count (2 * netlist.nodes.count) area.old next.now × Empty netlist.nodes.count area.old }
+    ensures { Running (source_of netlist.entry.nodes.words.now) (graph_in netlist.entry.nodes.words.now netlist.entry.nodes.count) [] area.new next.now × Counted netlist.entry.nodes.count area.new result }
 {
     let mut cells = ReadyCells {
-        from: count,
+        from: netlist.nodes.count,
         number: 0,
     };
-    for node in 0..count {
-        cells = open(nodes, count, area, node, cells);
+    for node in 0..netlist.nodes.count {
+        cells = open(netlist, area, node, cells);
     }
     cells
 }

@@ -1,43 +1,33 @@
 -- Laws of trimming, on lists and on stretches.
 -- Assumes nothing.
-use Prim.Native.Nat.{ℕ, suc, ◌+◌, ◌-◌, ◌≤◌, ◌<◌}
-use mathlib.Core.Path.{◌≡◌, refl, sym, ap, ◌∙◌}
+use Prim.Native.Nat.{ℕ, zero, suc, ◌+◌, ◌-◌, ◌≤◌, ◌<◌}
+use mathlib.Core.Path.{◌≡◌, refl, sym, ap, ap₂, ◌∙◌}
 use mathlib.Core.Bool.{Bool, true, false, cond}
-use mathlib.Core.List.{List, [], ◌∷◌, ◌++◌}
+use mathlib.Core.List.{List, [], ◌∷◌}
 use native.Mathlib.Omega.{arith}
+use native.Mathlib.Nat.{not-suc-le-zero}
 use lib.ListN.{length, get_or, take, drop}
 use Rattle.laws.specs.Stretches.{stretch, run, All}
-use Rattle.laws.proofs.Stretches.{stretch_snoc, drop-part, drop-stretch, take-stretch, length-stretch, length-stretch_le}
+use Rattle.laws.proofs.Stretches.{drop-stretch, take-stretch, length-stretch_le}
 use Rattle.text.specs.Blanks.{is_blank, trim_start, before, trim_end, trim, trimmed}
 use Rattle.text.specs.Words.{bytes_of}
 use Rattle.text.specs.declared.words.Word.{Word}
 
--- ---- by the last byte
+-- ---- by the last byte that is no blank
 
-trim_end-blank : (l : List ℕ) (b : ℕ) → is_blank b ≡ true → trim_end (l ++ (b ∷ [])) ≡ trim_end l
+pub trim_end_none : (l : List ℕ) → ((k : ℕ) → k < length l → is_blank (get_or l k 0) ≡ true) → [] ≡ trim_end l
 unfolding trim_end
-trim_end-blank [] b e = rw e
-trim_end-blank (x ∷ xs) b e = ap (before x) (trim_end-blank xs b e)
+trim_end_none [] f = refl
+trim_end_none (b ∷ bs) f = rw (← trim_end_none bs (λ k h. f (suc k) (omega arith)), f 0 (omega arith))
 
-before_snoc : (x : ℕ) (xs : List ℕ) (b : ℕ) → before x (xs ++ (b ∷ [])) ≡ x ∷ (xs ++ (b ∷ []))
-before_snoc x [] b = refl
-before_snoc x (y ∷ ys) b = refl
-
-trim_end-kept : (l : List ℕ) (b : ℕ) → is_blank b ≡ false → trim_end (l ++ (b ∷ [])) ≡ l ++ (b ∷ [])
+pub trim_end_last : (l : List ℕ) (i : ℕ) → i < length l → is_blank (get_or l i 0) ≡ false
+    → ((k : ℕ) → i + 1 ≤ k → k < length l → is_blank (get_or l k 0) ≡ true) → take (suc i) l ≡ trim_end l
 unfolding trim_end
-trim_end-kept [] b e = rw e
-trim_end-kept (x ∷ xs) b e = ap (before x) (trim_end-kept xs b e) ∙ before_snoc x xs b
-
-module _ (t : List ℕ) (s n : ℕ) (h : 0 < n) (k : s + n ≤ length t) where
-  pub end_blank : is_blank (get_or t (s + (n - 1)) 0) ≡ true → trim_end (stretch t s (n - 1)) ≡ trim_end (stretch t s n)
-  end_blank e = rw (stretch_snoc t s n h k) (sym (trim_end-blank (stretch t s (n - 1)) _ e))
-
-  pub end_kept : is_blank (get_or t (s + (n - 1)) 0) ≡ false → stretch t s n ≡ trim_end (stretch t s n)
-  end_kept e = rw (stretch_snoc t s n h k) (sym (trim_end-kept (stretch t s (n - 1)) _ e))
-
-pub end_none : (t : List ℕ) (s : ℕ) → stretch t s 0 ≡ trim_end (stretch t s 0)
-unfolding stretch trim_end
-end_none t s = refl
+trim_end_last [] i h e f = absurd (not-suc-le-zero h)
+trim_end_last (b ∷ bs) zero h e f = rw (← trim_end_none bs (λ k j. f (suc k) (omega arith) (omega arith)), e)
+trim_end_last (b ∷ []) (suc i) h e f = absurd (omega arith)
+trim_end_last (b ∷ c ∷ cs) (suc i) h e f =
+    ap (before b) (trim_end_last (c ∷ cs) i (omega arith) e (λ k j m. f (suc k) (omega arith) (omega arith)))
 
 -- ---- what trimming leaves is short
 
@@ -78,24 +68,14 @@ trim_start-run (b ∷ bs) = go (is_blank b) refl (trim_start-run bs)
     go true e h = rw e h
     go false e h = rw e
 
--- a stretch, by the place where its blanks in front end, and the length without those behind
-module _ (t : List ℕ) (from end s n : ℕ) (fe : from ≤ end) (el : end ≤ length t)
-    (ps : s ≡ from + run is_blank (stretch t from (end - from))) (se : s ≤ end)
-    (pn : stretch t s n ≡ trim_end (stretch t s (end - s))) (nl : n ≤ end - s) where
-  pub trim_bytes : stretch t s n ≡ trim (stretch t from (end - from))
-  unfolding trim
-  trim_bytes =
-      let l : List ℕ = stretch t from (end - from) in
-      let f : trim_start l ≡ stretch t s (end - s) =
-      trim_start-run l ∙ drop-part (run is_blank l) t from end ∙ ap (λ (x : ℕ). stretch t x (end - x)) (sym ps) in
-      pn ∙ ap trim_end (sym f)
-
-  pub trim_made : ◌≡◌ {A = Word} (record { start = s; len = n }) (trimmed t (record { start = from; len = end - from }))
-  unfolding trimmed
-  trim_made =
-      let k : s + n ≤ length t = omega arith in
-      let q : length (trim (stretch t from (end - from))) ≡ n = ap length (sym trim_bytes) ∙ length-stretch t s n k in
-      rw (q, ps)
+-- a stretch, by the place where its blanks in front end, and what is left there without the blanks behind
+pub trim_made : (t : List ℕ) (w : Word) (s : ℕ) (l : List ℕ) → s ≡ w.start + run is_blank (bytes_of t w) → l ≡ trim_end (stretch t s (w.start + w.len - s))
+    → ◌≡◌ {A = Word} (record { start = s; len = length l }) (trimmed t w)
+unfolding trimmed trim
+trim_made t w s l ps pl =
+    let f : trim_start (bytes_of t w) ≡ stretch t s (w.start + w.len - s) =
+    trim_start-run (bytes_of t w) ∙ drop-stretch (run is_blank (bytes_of t w)) t w.start w.len ∙ ap₂ (stretch t) (sym ps) (omega arith) in
+    rw (pl, ← f, ps)
 
 -- ---- the bytes at the place of what `trim` leaves
 

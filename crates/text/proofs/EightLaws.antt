@@ -13,9 +13,10 @@ use lib.Count.{count_trailing_zeros}
 use lib.ListN.{length, get_or, drop, replicate}
 use lib.Seq.{drop-drop}
 use borrow.Author.Tests.{eq-eqb, eqb-true, leb-true, leb-false, le-leb, lt-leb, ltb-true, ltb-false}
+use Rattle.std.proofs.Math.Bool.{and-true}
 use Rattle.laws.specs.Digits.{is_set}
 use Rattle.laws.specs.Stretches.{stretch, run, All}
-use Rattle.laws.proofs.Digits.{and_last, bit_shift, bit-and, bit_below, bit-zero, lowest}
+use Rattle.laws.proofs.Digits.{bit_shift, bit-and, bit_below, bit-zero, lowest}
 use Rattle.laws.proofs.Stretches.{rest_step, rest_end, all_map, all_at, length-stretch, get_or-stretch}
 use Rattle.laws.proofs.Table.{every, at}
 use Rattle.text.specs.Eights.{word_of, eight_at, outside, Between, BetweenOf}
@@ -213,7 +214,7 @@ module _ (low high : ℕ) (l : low < 128) (k : high < 128) (bs : List ℕ) (n : 
         let j = 8 * i + 7 in
         bit-and (bit_and (word_of up) (word_of down)) mask j
         ∙ ap (λ (t : Bool). t && is_set mask j) (bit-and (word_of up) (word_of down) j)
-        ∙ ap (λ (t : Bool). (is_set (word_of up) j && is_set (word_of down) j) && t) (mask_lane i q) ∙ and_last (is_set (word_of up) j && is_set (word_of down) j)
+        ∙ ap (λ (t : Bool). (is_set (word_of up) j && is_set (word_of down) j) && t) (mask_lane i q) ∙ and-true (is_set (word_of up) j && is_set (word_of down) j)
         ∙ ap (λ (t : Bool). t && is_set (word_of down) j) (up_lane i q) ∙ ap (λ (t : Bool). leb low (get_or bs i 0) && t) (down_lane i q)
         ∙ not_twice (leb low (get_or bs i 0) && leb (get_or bs i 0) high);
     only = λ t e. mask_only t (and_second (is_set (bit_and (word_of up) (word_of down)) t) (is_set mask t) (sym (bit-and (bit_and (word_of up) (word_of down)) mask t) ∙ e));

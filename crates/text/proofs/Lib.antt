@@ -5,6 +5,7 @@ pub mod BlankLaws
 pub mod BlockLaws
 pub mod WordLaws
 pub mod LineLaws
+pub mod IteratorLaws
 pub mod JoinLaws
 pub mod WriteLaws
 pub mod JoinedLines

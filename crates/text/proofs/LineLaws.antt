@@ -1,17 +1,18 @@
 -- Laws of lines: the next line of a text, what is kept of it, and the next kept line.
 -- Assumes nothing.
-use Prim.Native.Nat.{ℕ, suc, ◌+◌, ◌-◌, ◌≤◌, ◌<◌, min}
+use Prim.Native.Nat.{ℕ, zero, suc, ◌+◌, ◌-◌, ◌≤◌, ◌<◌, min}
 use mathlib.Core.Path.{◌≡◌, refl, sym, ap, ap₂, ◌∙◌}
 use mathlib.Core.Bool.{Bool, true, false, cond}
-use mathlib.Core.List.{List, [], ◌∷◌}
+use mathlib.Core.List.{List, [], ◌∷◌, map}
 use native.Mathlib.Omega.{arith}
-use lib.ListN.{length, get_or, take, drop, drop_of_length-le}
-use lib.Dec.{eqb}
+use lib.ListN.{length, get_or, take, drop}
+use lib.Dec.{eqb, ltb}
+use borrow.Author.Tests.{ltb-true, ltb-false}
 use Rattle.laws.specs.Stretches.{stretch, run, is_not, is_empty}
 use Rattle.laws.proofs.Stretches.{rest_end, part_step, head_step, stretch-none, stretch_all, take-stretch, drop-part, run_length, length-stretch, length-stretch_le}
 use Rattle.text.specs.Blanks.{trim}
 use Rattle.text.specs.Words.{bytes_of}
-use Rattle.text.specs.Lines.{add_first, raw_lines, places, lines, uncommented, kept, kept_of, kept_lines, FirstComment, EarlierComment}
+use Rattle.text.specs.Lines.{add_first, raw_lines, places, lines, uncommented, kept, kept_of, FirstComment, EarlierComment}
 use Rattle.text.proofs.RunLaws.{run_take, pass_near}
 use Rattle.text.specs.declared.words.Word.{Word}
 
@@ -64,6 +65,34 @@ pub lines_over : (t : List ℕ) (at size : ℕ) → size ≤ at → lines at (st
 unfolding lines places raw_lines
 lines_over t at size h = rw (rest_end t at size at h)
 
+-- the lines by their bytes
+lines_bytes_within : (k : ℕ) (t : List ℕ) (at : ℕ) → length t ≤ at + k → map (bytes_of t) (lines at (stretch t at (length t - at))) ≡ raw_lines (stretch t at (length t - at))
+unfolding raw_lines
+lines_bytes_within zero t at h = rw (lines_over t at (length t) (omega arith), rest_end t at (length t) at (omega arith)) refl
+lines_bytes_within (suc k) t at h =
+    go (ltb at (length t)) refl (λ n later. lines_bytes_within k t n later)
+  where
+    go : (b : Bool) → ltb at (length t) ≡ b
+        → ((n : ℕ) → length t ≤ n + k → map (bytes_of t) (lines n (stretch t n (length t - n))) ≡ raw_lines (stretch t n (length t - n)))
+        → map (bytes_of t) (lines at (stretch t at (length t - at))) ≡ raw_lines (stretch t at (length t - at))
+    go false e after =
+        let over : length t ≤ at = omega (arith, ltb-false at (length t) e) in
+        rw (lines_over t at (length t) over, rest_end t at (length t) at over) refl
+    go true e after =
+        let in_text : at < length t = ltb-true at (length t) e in
+        let n : ℕ = at + run (is_not 10) (stretch t at (length t - at)) in
+        rw (line_next t at (length t) n in_text (omega arith) refl, raw-next t at (length t) n in_text (omega arith) refl)
+        (ap (λ (ls : List (List ℕ)). stretch t at (n - at) ∷ ls) (after (n + 1) (omega arith)))
+
+pub lines_bytes_from : (t : List ℕ) (at : ℕ) → map (bytes_of t) (lines at (stretch t at (length t - at))) ≡ raw_lines (stretch t at (length t - at))
+lines_bytes_from t at = lines_bytes_within (length t) t at (omega arith)
+
+pub lines_bytes : (t : List ℕ) → map (bytes_of t) (lines 0 t) ≡ raw_lines t
+lines_bytes t = rw (stretch_all t 0 (length t) refl) at (lines_bytes_from t 0)
+
+pub lines_start : (t : List ℕ) → lines 0 (stretch t 0 (length t - 0)) ≡ lines 0 t
+lines_start t = ap (lines 0) (stretch_all t 0 (length t) refl)
+
 -- ---- what is kept of a line
 
 uncommented-run : (l : List ℕ) → uncommented l ≡ take (run (is_not 35) l) l
@@ -75,16 +104,15 @@ uncommented-run (b ∷ bs) = go (eqb b 35) refl (uncommented-run bs)
     go true e h = rw e
     go false e h = rw e (ap (λ (l : List ℕ). b ∷ l) h)
 
-pub kept_made : (t : List ℕ) (from end cut : ℕ) (w : Word) → from ≤ end → end ≤ length t
-    → cut ≡ from + run (is_not 35) (stretch t from (end - from)) → cut ≤ end
-    → bytes_of t w ≡ trim (stretch t from (cut - from))
-    → bytes_of t w ≡ kept (stretch t from (end - from))
+pub kept_made : (t : List ℕ) (line : Word) (cut : ℕ) (w : Word) → cut ≡ line.start + run (is_not 35) (stretch t line.start (line.start + line.len - line.start))
+    → cut ≤ line.start + line.len → bytes_of t w ≡ trim (stretch t line.start (cut - line.start)) → bytes_of t w ≡ kept (bytes_of t line)
 unfolding kept
-kept_made t from end cut w fe el pc ce pw =
-    let l : List ℕ = stretch t from (end - from) in
-    let c : cut - from ≡ run (is_not 35) l = omega arith in
-    let u : uncommented l ≡ stretch t from (cut - from) =
-    uncommented-run l ∙ ap (λ (j : ℕ). take j l) (sym c) ∙ take-stretch (cut - from) t from (end - from) (omega arith) in
+kept_made t line cut w pc ce pw =
+    let same : line.start + line.len - line.start ≡ line.len = omega arith in
+    let e : cut ≡ line.start + run (is_not 35) (bytes_of t line) = pc ∙ ap (λ (n : ℕ). line.start + run (is_not 35) (stretch t line.start n)) same in
+    let c : cut - line.start ≡ run (is_not 35) (bytes_of t line) = omega (arith, e) in
+    let u : uncommented (bytes_of t line) ≡ stretch t line.start (cut - line.start) =
+    uncommented-run (bytes_of t line) ∙ ap (λ (j : ℕ). take j (bytes_of t line)) (sym c) ∙ take-stretch (cut - line.start) t line.start line.len (omega arith) in
     rw u pw
 
 -- ---- the first `#` from a place on
@@ -111,27 +139,30 @@ comment_on t at comment al e h =
 
 -- ---- kept lines
 
-module _ (t : List ℕ) (at size end s n : ℕ) (sz : size ≡ length t) (h : at < size)
-    (e : end ≡ at + run (is_not 10) (stretch t at (size - at)))
-    (w : stretch t s n ≡ kept (stretch t at (end - at))) (b : s + n ≤ end) (be : end ≤ size)
-  where
-    line_is : kept_lines (drop at t)
-        ≡ cond (is_empty (stretch t s n)) (kept_lines (drop (end + 1) t)) (stretch t s n ∷ kept_lines (drop (end + 1) t))
-    unfolding kept_lines kept_of
-    line_is =
-        let k : size ≤ length t = omega arith in
-        rw (← stretch_all t at size sz, raw-next t at size end h k e, ← w, stretch_all t (end + 1) size sz)
+-- the raw line that an iterator gave, and those after it
+pub raw_after : (t : List ℕ) (at next : ℕ) (line : Word) → lines at (stretch t at (length t - at)) ≡ line ∷ lines next (stretch t next (length t - next))
+    → raw_lines (drop at t) ≡ bytes_of t line ∷ raw_lines (drop next t)
+raw_after t at next line e =
+    let bytes : raw_lines (stretch t at (length t - at)) ≡ bytes_of t line ∷ raw_lines (stretch t next (length t - next)) =
+    sym (lines_bytes_from t at) ∙ ap (map (bytes_of t)) e ∙ ap (λ (ls : List (List ℕ)). bytes_of t line ∷ ls) (lines_bytes_from t next) in
+    rw (stretch_all t at (length t) refl, stretch_all t next (length t) refl) at bytes
 
-    pub line_none : n ≡ 0 → kept_lines (drop at t) ≡ kept_lines (drop (end + 1) t)
-    line_none z = line_is ∙ rw (stretch-none t s n z)
+module _ (t : List ℕ) (raws rest : List (List ℕ)) (line w : Word) (raw : raws ≡ bytes_of t line ∷ rest)
+    (k : bytes_of t w ≡ kept (bytes_of t line)) (b : w.start + w.len ≤ length t) where
+  line_is : kept_of raws ≡ cond (is_empty (bytes_of t w)) (kept_of rest) (bytes_of t w ∷ kept_of rest)
+  unfolding kept_of
+  line_is = rw (raw, ← k)
 
-    pub line_some : (n ≡ 0 → ⊥) → kept_lines (drop at t) ≡ stretch t s n ∷ kept_lines (drop (end + 1) t)
-    line_some z =
-        let p : 0 < n = omega arith in
-        let q : s + n ≤ length t = omega arith in
-        let f : is_empty (stretch t s n) ≡ false = rw (head_step t s n p q) in
-        line_is ∙ rw f
+  pub line_none : w.len ≡ 0 → kept_of raws ≡ kept_of rest
+  line_none z = line_is ∙ rw (stretch-none t w.start w.len z)
 
-pub no_lines : (t : List ℕ) (at : ℕ) → length t ≤ at → kept_lines (drop at t) ≡ []
-unfolding kept_lines kept_of raw_lines
-no_lines t at h = rw (drop_of_length-le t h)
+  pub line_some : (w.len ≡ 0 → ⊥) → kept_of raws ≡ bytes_of t w ∷ kept_of rest
+  line_some z =
+      let f : is_empty (bytes_of t w) ≡ false = rw (head_step t w.start w.len (omega arith) b) in
+      line_is ∙ rw f
+
+pub no_lines : (t : List ℕ) (at : ℕ) → lines at (stretch t at (length t - at)) ≡ [] → kept_of (raw_lines (drop at t)) ≡ []
+unfolding kept_of
+no_lines t at e =
+    let none : raw_lines (stretch t at (length t - at)) ≡ [] = sym (lines_bytes_from t at) ∙ ap (map (bytes_of t)) e in
+    ap kept_of (rw (stretch_all t at (length t) refl) at none)

@@ -1,17 +1,17 @@
 -- Laws of numbers: what is left of a list's digits.
 -- Assumes nothing.
 use Prim.Native.Nat.{ℕ, ◌+◌, ◌-◌, ◌*◌, ◌^◌, ◌≤◌, ◌<◌}
-use mathlib.Core.Path.{◌≡◌, refl}
-use mathlib.Core.Bool.{Bool, true, false, cond, ◌&&◌}
+use mathlib.Core.Path.{◌≡◌, refl, sym, ◌∙◌}
+use mathlib.Core.Bool.{Bool, true, false, cond, ◌&&◌, false≢true}
+use Rattle.std.specs.Cmp.Lexicographic.{pointwise}
 use mathlib.Core.List.{List, [], ◌∷◌}
 use mathlib.Core.Option.{none, some}
 use native.Mathlib.Omega.{arith}
 use native.Mathlib.Numerals.{add-one}
-use lib.ListN.{length, get_or, drop}
+use lib.ListN.{length, get_or, take, drop}
 use lib.Seq.{drop-cons}
-use borrow.Author.Tests.{eq-eqb, ne_eqb, lt-ltb, le-ltb}
-use Rattle.laws.specs.Stretches.{stretch}
-use Rattle.laws.proofs.Stretches.{head_step, stretch-none}
+use lib.Dec.{eqb}
+use borrow.Author.Tests.{lt-ltb, le-ltb}
 use Rattle.text.specs.Numbers.{is_digit, all_digits, value_from, digits_from, digits, parse_usize}
 
 value_grows : (v : ℕ) (l : List ℕ) → v ≤ value_from v l
@@ -53,23 +53,21 @@ unfolding digits
 digits-some [] z = absurd (z refl)
 digits-some (b ∷ bs) z = refl
 
-pub digits-none : (t : List ℕ) (s n : ℕ) → n ≡ 0 → none ≡ digits (stretch t s n)
+pub digits-none : (l : List ℕ) → length l ≡ 0 → none ≡ digits l
 unfolding digits
-digits-none t s n e = rw (stretch-none t s n e)
+digits-none [] e = refl
+digits-none (b ∷ bs) e = absurd (omega arith)
 
-pub number-none : (t : List ℕ) (s n : ℕ) → n ≡ 0 → none ≡ parse_usize (stretch t s n)
+with_true : (t : Bool) → (t && true) ≡ t
+with_true true = refl
+with_true false = refl
+
+pub number_plus : (l : List ℕ) → pointwise eqb (take 1 l) (43 ∷ []) ≡ true → digits (drop 1 l) ≡ parse_usize l
 unfolding parse_usize
-number-none t s n e = rw (stretch-none t s n e)
+number_plus [] e = absurd (false≢true e)
+number_plus (b ∷ bs) e = rw (sym (with_true (eqb b 43)) ∙ e) refl
 
-module _ (t : List ℕ) (s n : ℕ) (z : n ≡ 0 → ⊥) (k : s + n ≤ length t) where
-  pub number_plus : get_or t s 0 ≡ 43 → digits (stretch t (s + 1) (n - 1)) ≡ parse_usize (stretch t s n)
-  unfolding parse_usize
-  number_plus e =
-      let h : 0 < n = omega arith in
-      rw (head_step t s n h k, eq-eqb (get_or t s 0) 43 e)
-
-  pub number-plain : (get_or t s 0 ≡ 43 → ⊥) → digits (stretch t s n) ≡ parse_usize (stretch t s n)
-  unfolding parse_usize
-  number-plain e =
-      let h : 0 < n = omega arith in
-      rw (head_step t s n h k, ne_eqb (get_or t s 0) 43 e)
+pub number_plain : (l : List ℕ) → pointwise eqb (take 1 l) (43 ∷ []) ≡ false → digits l ≡ parse_usize l
+unfolding digits parse_usize
+number_plain [] e = refl
+number_plain (b ∷ bs) e = rw (sym (with_true (eqb b 43)) ∙ e) refl

@@ -51,12 +51,6 @@ module _ (p : ℕ → Bool) where
       go true f h = let e = f (omega arith) in omega (arith, e)
       go false f h = absurd (omega arith)
 
--- two tests that agree
-pub run_same : (p q : ℕ → Bool) → ((b : ℕ) → p b ≡ q b) → (l : List ℕ) → run p l ≡ run q l
-unfolding run
-run_same p q e [] = refl
-run_same p q e (b ∷ bs) = rw (e b, run_same p q e bs)
-
 -- a test that passes where another does
 run_least : (p q : ℕ → Bool) → ((b : ℕ) → p b ≡ true → q b ≡ true) → (l : List ℕ) → run p l ≤ run q l
 unfolding run

@@ -1,6 +1,6 @@
 -- The next word is the first of the words, and the rest are those after it; each word is one; the words by their bytes.
 -- Assumes nothing.
-use Prim.Native.Nat.{ℕ, zero, suc, ◌+◌, ◌-◌, ◌≤◌, ◌<◌}
+use Prim.Native.Nat.{ℕ, zero, suc, ◌+◌, ◌-◌, ◌≤◌}
 use mathlib.Core.Path.{◌≡◌, refl, sym, ap, ap₂, ◌∙◌}
 use mathlib.Core.Bool.{Bool, true, false, cond}
 use mathlib.Core.List.{List, [], ◌∷◌, map}
@@ -14,7 +14,6 @@ use Rattle.laws.proofs.Stretches.{rest_end, drop-part, run_drop, run_length, run
 use Rattle.text.specs.Blanks.{is_blank, not_blank}
 use Rattle.text.specs.Words.{bytes_of, words, within, words_between, split_whitespace, next_word, IsWord}
 use Rattle.text.specs.declared.words.Word.{Word}
-use Rattle.text.specs.declared.words.Words.{Words}
 
 pub next_made : (t : List ℕ) (from end s e : ℕ) → s ≡ from + run is_blank (stretch t from (end - from)) → e ≡ s + run not_blank (stretch t s (end - s))
     → ◌≡◌ {A = Word} (record { start = s; len = e - s }) (next_word t from end)
@@ -140,14 +139,6 @@ module _ (t : List ℕ) (from end : ℕ) where
         → words from (stretch t from (end - from)) ≡ w ∷ words (w.start + w.len) (stretch t (w.start + w.len) (end - (w.start + w.len)))
     first_word nz = rw e (next' (rw e at nz))
 
-    pub word_after : from ≤ w.start
-    unfolding next_word
-    word_after = rw e (omega arith)
-
-    -- a word is there, since the line has one
-    pub some_word : 0 < length (words from (stretch t from (end - from))) → w.len ≡ 0 → ⊥
-    some_word h z = omega (arith, rw (no_word z) at h)
-
     start_is : w.start ≡ from + run is_blank (stretch t from (end - from))
     unfolding next_word
     start_is = ap (λ (x : Word). x.start) e
@@ -190,15 +181,11 @@ mutual
 pub count_between : (t : List ℕ) (from end : ℕ) → length (words_between t from end) ≤ end - from
 count_between t from end = omega (arith, words_count from (stretch t from (end - from)), length-stretch_le t from (end - from))
 
--- the words that an iterator has yet to give
-abbrev pub words_left : Words → List Word
-words_left w = words_between w.text.now w.at w.end
-
 -- ---- each word is one
 
 module _ (t : List ℕ) (from end : ℕ) where
   -- the next word, if there is one
-  next-is : ((next_word t from end).len ≡ 0 → ⊥) → IsWord t from end (next_word t from end)
+  pub next-is : ((next_word t from end).len ≡ 0 → ⊥) → IsWord t from end (next_word t from end)
   unfolding next_word
   next-is nz =
       let s : ℕ = from + run is_blank (stretch t from (end - from)) in
@@ -259,9 +246,6 @@ words_bytes t s n =
 abbrev pub rest : List ℕ → ℕ → ℕ → List (List ℕ)
 rest t at end = split_whitespace (stretch t at (end - at))
 
-pub rest_over : (t : List ℕ) (at end : ℕ) → end ≤ at → rest t at end ≡ []
-rest_over t at end h = sym (words_bytes t at (end - at)) ∙ ap (map (bytes_of t)) (words_over t at end h)
-
 pub rest_count : (t : List ℕ) (at end : ℕ) → length (rest t at end) ≡ length (words at (stretch t at (end - at)))
 rest_count t at end = ap length (sym (words_bytes t at (end - at))) ∙ size (words at (stretch t at (end - at)))
   where
@@ -278,6 +262,3 @@ module _ (t : List ℕ) (from end : ℕ) (w : Word) (e : w ≡ next_word t from 
       sym (words_bytes t from (end - from))
       ∙ ap (map (bytes_of t)) (first_word t from end w e nz)
       ∙ ap (λ (ws : List (List ℕ)). stretch t w.start w.len ∷ ws) (words_bytes t (w.start + w.len) (end - (w.start + w.len)))
-
-  pub rest_some : 0 < length (rest t from end) → w.len ≡ 0 → ⊥
-  rest_some h z = omega (arith, rw (rest_none z) at h)

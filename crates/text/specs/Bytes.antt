@@ -1,7 +1,8 @@
 -- Bytes of a text: those below 128, and letters as capitals.
 -- Assumes nothing.
-use Rattle.std.specs.Prelude.{ℕ, ◌-◌, ◌<◌, ◌≡◌, Bool, true, not, cond, ◌&&◌, List, [], ◌∷◌, map, eqb, leb, ltb}
-use Rattle.laws.specs.Stretches.{same_bytes}
+use Rattle.std.specs.Prelude.{ℕ, ◌+◌, ◌-◌, ◌<◌, ◌≡◌, Bool, true, not, cond, ◌&&◌, List, [], ◌∷◌, map, eqb, leb, ltb, Option, Some, None}
+use Rattle.laws.specs.Stretches.{stretch, run, is_not, same_bytes}
+use Rattle.text.specs.declared.words.Word.{Word}
 
 -- "a byte of 128 or more, comments included": a text that has none
 unfoldable pub is_ascii : List ℕ → Bool
@@ -23,3 +24,9 @@ upper b = cond (leb 97 b && leb b 122) (b - 32) b
 -- a word is a name of capital letters, in any case of its own letters
 abbrev pub is_named : List ℕ → List ℕ → Bool
 is_named w name = same_bytes (map upper w) name
+
+-- the place of the first x in a stretch of a text, if there is one
+unfoldable pub first_place : ℕ → List ℕ → Word → Option ℕ
+first_place x t w =
+    let n = run (is_not x) (stretch t w.start w.len) in
+    cond (ltb n w.len) (Some (w.start + n)) None

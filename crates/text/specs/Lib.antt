@@ -5,4 +5,5 @@ pub mod Words
 pub mod Lines
 pub mod Joining
 pub mod Writing
+pub mod Iterators
 pub mod Numbers

@@ -1,11 +1,10 @@
 -- Lines: at byte 10; what is kept of them; and the places of the lines of a text.
 -- Assumes nothing.
-use Rattle.std.specs.Prelude.{ℕ, ◌+◌, ◌-◌, ◌≤◌, ◌<◌, ◌≡◌, cond, List, [], ◌∷◌, length, drop, eqb}
+use Rattle.std.specs.Prelude.{ℕ, ◌+◌, ◌-◌, ◌≤◌, ◌≡◌, cond, List, [], ◌∷◌, length, eqb}
 use Rattle.laws.specs.Stretches.{stretch, run, is_not, is_empty}
 use Rattle.text.specs.Blanks.{trim}
 use Rattle.text.specs.Words.{words, bytes_of}
 use Rattle.text.specs.declared.words.Word.{Word}
-use Rattle.text.specs.declared.lines.Line.{Line}
 
 -- a byte in front of the first line
 abbrev pub add_first : ℕ → List (List ℕ) → List (List ℕ)
@@ -56,11 +55,3 @@ pub record EarlierComment (t : List ℕ) (at comment : ℕ) : Type 0 where
   pub from : ℕ
   pub before : from ≤ at
   pub first : FirstComment t from comment
-
--- the next kept line of a text from a position on, where a raw line starts; of length 0 if there is none
-pub record NextLine (t : List ℕ) (from : ℕ) (l : Line) : Type 0 where
-  pub within : l.start + l.len ≤ length t
-  pub reach : l.next ≤ length t + 1
-  pub on : (l.len ≡ 0 → ⊥) → from < l.next
-  pub none : l.len ≡ 0 → kept_lines (drop from t) ≡ []
-  pub some : (l.len ≡ 0 → ⊥) → kept_lines (drop from t) ≡ stretch t l.start l.len ∷ kept_lines (drop l.next t)

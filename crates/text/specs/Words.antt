@@ -8,6 +8,10 @@ use Rattle.text.specs.declared.words.Word.{Word}
 abbrev pub bytes_of : List ℕ → Word → List ℕ
 bytes_of t w = stretch t w.start w.len
 
+-- the stretch from one place up to another
+abbrev pub between : ℕ → ℕ → Word
+between from end = record { start = from; len = end - from }
+
 -- the words of bytes that stand from position `at` on, each by its place: `within s n` has read n bytes of a word that starts at s
 unfoldable mutual
   pub words : ℕ → List ℕ → List Word

@@ -5,7 +5,6 @@ ghost use Rattle.text.specs.Blanks.{is_blank, not_blank, trim_end};
 
 use crate::bytes::find_where;
 use crate::eights::find_between;
-use crate::words::Word;
 
 // Whether a byte is 9 to 13 or 32.
 #[tactic(auto, unfolding(crate::specs::Blanks::is_blank))]
@@ -40,15 +39,12 @@ pub fn find_blank(text: &[u8], from: usize, end: usize) -> usize
     scan_blank(text, i, end)
 }
 
-// How much of a word is left without the blanks at its end.
-pub fn trim_end(text: &[u8], word: Word) -> usize
-    requires { word.start + word.len ≤ length text.now }
-    ensures { (stretch text.now word.start result ≡ trim_end (stretch text.now word.start word.len)) × (result ≤ word.len) }
+// Bytes without the blanks at their end.
+pub fn trim_end(bytes: &[u8]) -> &[u8]
+    ensures { result.now ≡ trim_end bytes.now }
 {
-    for n in (0..word.len).rev() {
-        if !is_blank(text[word.start + n]) {
-            return n + 1;
-        }
+    match bytes.iter().rposition(|&b| !is_blank(b)) {
+        Some(last) => &bytes[..=last],
+        None => &bytes[..0],
     }
-    0
 }

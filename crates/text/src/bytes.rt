@@ -1,8 +1,8 @@
 // Bytes: a text of ASCII alone, a byte's first place, words compared.
 ghost use Rattle.std.specs.Prelude.{ℕ, Bool, ◌≡◌, ◌+◌, ◌-◌, ◌≤◌, length};
 ghost use Rattle.laws.specs.Lists.{some};
-ghost use Rattle.laws.specs.Stretches.{stretch, run, is_not, same_bytes};
-ghost use Rattle.text.specs.Bytes.{EndsRun, is_ascii, is_byte, is_named};
+ghost use Rattle.laws.specs.Stretches.{stretch, run, is_not};
+ghost use Rattle.text.specs.Bytes.{EndsRun, first_place, is_ascii, is_byte, is_named};
 
 use crate::eights::find_between;
 use crate::words::Word;
@@ -21,12 +21,10 @@ pub fn find_where<F: Fn(u8) -> bool>(text: &[u8], from: usize, end: usize, passe
     ensures first { (p : ℕ → Bool) → EndsRun (F.post passes) p → result ≡ from + run p (stretch text.now from (end - from)) }
     ensures last { result ≤ end }
 {
-    for i in from..end {
-        if passes(text[i]) {
-            return i;
-        }
+    match text[from..end].iter().position(|&b| passes(b)) {
+        Some(n) => from + n,
+        None => end,
     }
-    end
 }
 
 // The first place of a byte, from `from` on and before `end`, byte by byte; `end` if there is none.
@@ -63,8 +61,8 @@ pub fn skip_blocks(text: &[u8], x: u8, from: usize, end: usize) -> usize
     i
 }
 
-// The same, eight bytes at a time.
-pub fn find_byte(text: &[u8], x: u8, from: usize, end: usize) -> usize
+// The first place of a byte, eight bytes at a time; `end` if there is none.
+pub fn skip_to(text: &[u8], x: u8, from: usize, end: usize) -> usize
     requires { (from ≤ end) × (end ≤ length text.now) }
     ensures { (result ≡ from + run (is_not x) (stretch text.now from (end - from))) × (result ≤ end) }
 {
@@ -76,29 +74,30 @@ pub fn find_byte(text: &[u8], x: u8, from: usize, end: usize) -> usize
 }
 
 // The same where it is mostly far, as the end of a line is: 32 bytes at a time, then eight.
-pub fn find_far_byte(text: &[u8], x: u8, from: usize, end: usize) -> usize
+// What has none ends where the text does, so the end is an answer, and no `None`.
+pub fn skip_to_far(text: &[u8], x: u8, from: usize, end: usize) -> usize
     requires { (from ≤ end) × (end ≤ length text.now) }
     ensures { (result ≡ from + run (is_not x) (stretch text.now from (end - from))) × (result ≤ end) }
 {
     let i = skip_blocks(text, x, from, end);
-    find_byte(text, x, i, end)
+    skip_to(text, x, i, end)
 }
 
-// Whether a word of the text has these letters, byte for byte.
-#[tactic(auto, using(crate::proofs::ByteLaws::same_pointwise))]
-pub fn is_word(text: &[u8], word: Word, letters: &[u8]) -> bool
+// The place of the first x in a word, if there is one.
+#[tactic(auto, unfolding(crate::specs::Bytes::first_place))]
+pub fn find_byte(text: &[u8], x: u8, word: Word) -> Option<usize>
     requires { word.start + word.len ≤ length text.now }
-    ensures { result ≡ same_bytes (stretch text.now word.start word.len) letters.now }
+    ensures { result ≡ first_place x text.now word }
 {
-    word.bytes(text) == letters
+    let end = word.start + word.len;
+    let at = skip_to(text, x, word.start, end);
+    if at < end { Some(at) } else { None }
 }
 
-// Whether a word of the text has these capital letters, in any case of its own letters.
-pub fn is_named(text: &[u8], word: Word, letters: &[u8]) -> bool
-    requires { word.start + word.len ≤ length text.now }
-    ensures { result ≡ is_named (stretch text.now word.start word.len) letters.now }
+// Whether bytes are these capital letters, in any case of their own.
+pub fn is_named(bytes: &[u8], letters: &[u8]) -> bool
+    ensures { result ≡ is_named bytes.now letters.now }
 {
-    let bytes = word.bytes(text);
     bytes.len() == letters.len()
         && bytes
             .iter()

@@ -6,34 +6,27 @@ ghost use Rattle.text.specs.Joining.{continued, part, joined_text, Joins};
 ghost use Rattle.text.specs.Writing.{added, still, added_by, still_by, Puts};
 
 use crate::blanks::trim_end;
-use crate::bytes::find_far_byte;
+use crate::bytes::skip_to_far;
+use crate::iterators::lines_of;
 use crate::lines::{kept_before, next_comment};
 use crate::words::Word;
 
-// Whether a word ends in `\`.
-pub fn is_continued(text: &[u8], word: Word) -> bool
-    requires { word.start + word.len ≤ length text.now }
-    ensures { result ≡ continued (stretch text.now word.start word.len) }
+// Whether a line ends in `\`.
+pub fn is_continued(line: &[u8]) -> bool
+    ensures { result ≡ continued line.now }
 {
-    word.len != 0 && text[word.start + (word.len - 1)] == b'\\'
+    line.ends_with(b"\\")
 }
 
-// How much of a kept line goes into the joined text.
-pub fn part_len(text: &[u8], word: Word) -> usize
-    requires { word.start + word.len ≤ length text.now }
-    ensures { (stretch text.now word.start result ≡ part (stretch text.now word.start word.len)) × (result ≤ word.len) }
+// What of a kept line goes into the joined text.
+pub fn part(line: &[u8]) -> &[u8]
+    ensures { result.now ≡ part line.now }
 {
-    if word.len == 0 {
-        return 0;
+    if is_continued(line) {
+        trim_end(&line[..line.len() - 1])
+    } else {
+        line
     }
-    if is_continued(text, word) {
-        let shorter = Word {
-            len: word.len - 1,
-            ..word
-        };
-        return trim_end(text, shorter);
-    }
-    word.len
 }
 
 // One byte, if it is wanted; where the writing goes on.
@@ -49,13 +42,14 @@ pub fn put_if(joined: &mut [u8], out: usize, wanted: bool, b: u8) -> usize
     }
 }
 
-// A word of the text; where the writing goes on.
-pub fn put_stretch(text: &[u8], word: Word, joined: &mut [u8], out: usize) -> usize
-    requires { (word.start + word.len ≤ length text.now) × (out + word.len ≤ length joined.old) }
-    ensures { Puts joined.old joined.new out result (stretch text.now word.start word.len) }
+// Bytes; where the writing goes on.
+pub fn put_bytes(joined: &mut [u8], out: usize, bytes: &[u8]) -> usize
+    requires { out + length bytes.now ≤ length joined.old }
+    ensures { Puts joined.old joined.new out result bytes.now }
 {
-    joined[out..out + word.len].copy_from_slice(word.bytes(text));
-    out + word.len
+    let end = out + bytes.len();
+    joined[out..end].copy_from_slice(bytes);
+    end
 }
 
 // Where the writing stands: how many bytes are written, and whether something is gathered.
@@ -73,16 +67,16 @@ pub fn still_gathered(more: bool, gathered: bool, n: usize) -> bool
 }
 
 // A kept line: a space before it if something is gathered, and byte 10 after it unless it is continued.
-pub fn put_line(text: &[u8], word: Word, joined: &mut [u8], put: Put) -> Put
-    requires { (word.start + word.len ≤ length text.now) × (put.out + length (added put.gathered (stretch text.now word.start word.len)) ≤ length joined.old) }
-    ensures { Puts joined.old joined.new put.out result.out (added put.gathered (stretch text.now word.start word.len)) × (result.gathered ≡ still put.gathered (stretch text.now word.start word.len)) }
+pub fn put_line(joined: &mut [u8], put: Put, line: &[u8]) -> Put
+    requires { put.out + length (added put.gathered line.now) ≤ length joined.old }
+    ensures { Puts joined.old joined.new put.out result.out (added put.gathered line.now) × (result.gathered ≡ still put.gathered line.now) }
 {
-    let n = part_len(text, word);
-    let more = is_continued(text, word);
+    let bytes = part(line);
+    let more = is_continued(line);
     let a = put_if(joined, put.out, put.gathered, b' ');
-    let b = put_stretch(text, Word { len: n, ..word }, joined, a);
+    let b = put_bytes(joined, a, bytes);
     let c = put_if(joined, b, !more, b'\n');
-    let g = still_gathered(more, put.gathered, n);
+    let g = still_gathered(more, put.gathered, bytes.len());
     Put {
         out: c,
         gathered: g,
@@ -90,23 +84,16 @@ pub fn put_line(text: &[u8], word: Word, joined: &mut [u8], put: Put) -> Put
 }
 
 // A raw line; the first `#` from its start on stands at `comment`, which may lie past its end.
-pub fn put_raw(
-    text: &[u8],
-    from: usize,
-    end: usize,
-    comment: usize,
-    joined: &mut [u8],
-    put: Put,
-) -> Put
-    requires from_le_end { (from ≤ end) × (end ≤ length text.now) × FirstComment text.now from comment }
-    requires from_in_bounds { put.out + length (added_by put.gathered (stretch text.now from (end - from))) ≤ length joined.old }
-    ensures { Puts joined.old joined.new put.out result.out (added_by put.gathered (stretch text.now from (end - from))) × (result.gathered ≡ still_by put.gathered (stretch text.now from (end - from))) }
+pub fn put_raw(joined: &mut [u8], put: Put, text: &[u8], line: Word, comment: usize) -> Put
+    requires line_in_bounds { (line.start + line.len ≤ length text.now) × FirstComment text.now line.start comment }
+    requires from_in_bounds { put.out + length (added_by put.gathered (stretch text.now line.start line.len)) ≤ length joined.old }
+    ensures { Puts joined.old joined.new put.out result.out (added_by put.gathered (stretch text.now line.start line.len)) × (result.gathered ≡ still_by put.gathered (stretch text.now line.start line.len)) }
 {
-    let w = kept_before(text, from, end, comment);
-    if w.len == 0 {
+    let kept = kept_before(text, line, comment);
+    if kept.len == 0 {
         return put;
     }
-    put_line(text, w, joined, put)
+    put_line(joined, put, kept.bytes(text))
 }
 
 // The joined text in front of the area, and how long it is.
@@ -114,19 +101,14 @@ pub fn put_lines(text: &[u8], joined: &mut [u8]) -> usize
     requires { length text.now < length joined.old }
     ensures { (take result joined.new ≡ joined_text text.now) × (result ≤ length text.now + 1) }
 {
-    let size = text.len();
-    let mut at = 0;
     let mut put = Put {
         out: 0,
         gathered: false,
     };
-    let mut comment = find_far_byte(text, b'#', 0, size);
-    // Each turn goes on after the line before, so there is no range to count over.
-    while at < size {
-        let end = find_far_byte(text, b'\n', at, size);
-        comment = next_comment(text, at, comment);
-        put = put_raw(text, at, end, comment, joined, put);
-        at = end + 1;
+    let mut comment = skip_to_far(text, b'#', 0, text.len());
+    for line in lines_of(text) {
+        comment = next_comment(text, line.start, comment);
+        put = put_raw(joined, put, text, line, comment);
     }
     put_if(joined, put.out, put.gathered, b'\n')
 }

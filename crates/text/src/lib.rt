@@ -5,6 +5,7 @@
 pub mod blanks;
 pub mod bytes;
 pub mod eights;
+pub mod iterators;
 pub mod joining;
 pub mod lines;
 pub mod numbers;

@@ -1,20 +1,16 @@
 // Unsigned 64-bit numbers of a text.
-ghost use Rattle.std.specs.Prelude.{◌≡◌, ◌+◌, ◌≤◌, length};
-ghost use Rattle.laws.specs.Stretches.{stretch};
+ghost use Rattle.std.specs.Prelude.{◌≡◌};
 ghost use Rattle.text.specs.Numbers.{number_of, digits, parse_usize};
 
-use crate::words::Word;
-
 // One digit or more.
-pub fn parse_digits(text: &[u8], word: Word) -> Option<usize>
-    requires { word.start + word.len ≤ length text.now }
-    ensures { number_of result ≡ digits (stretch text.now word.start word.len) }
+pub fn parse_digits(bytes: &[u8]) -> Option<usize>
+    ensures { number_of result ≡ digits bytes.now }
 {
-    if word.len == 0 {
+    if bytes.is_empty() {
         return None;
     }
     let mut v: usize = 0;
-    for &b in word.bytes(text) {
+    for &b in bytes {
         if !b.is_ascii_digit() {
             return None;
         }
@@ -24,19 +20,11 @@ pub fn parse_digits(text: &[u8], word: Word) -> Option<usize>
 }
 
 // A `+`, if there is one, and digits.
-pub fn parse_usize(text: &[u8], word: Word) -> Option<usize>
-    requires { word.start + word.len ≤ length text.now }
-    ensures { number_of result ≡ parse_usize (stretch text.now word.start word.len) }
+pub fn parse_usize(bytes: &[u8]) -> Option<usize>
+    ensures { number_of result ≡ parse_usize bytes.now }
 {
-    if word.len == 0 {
-        return None;
+    match bytes.strip_prefix(b"+") {
+        Some(rest) => parse_digits(rest),
+        None => parse_digits(bytes),
     }
-    if text[word.start] == b'+' {
-        let rest = Word {
-            start: word.start + 1,
-            len: word.len - 1,
-        };
-        return parse_digits(text, rest);
-    }
-    parse_digits(text, word)
 }

@@ -2,11 +2,11 @@
 ghost use Rattle.std.specs.Prelude.{◌≡◌, ◌+◌, ◌-◌, ◌≤◌, length};
 ghost use Rattle.laws.specs.Stretches.{stretch};
 ghost use Rattle.text.specs.Blanks.{trimmed};
-ghost use Rattle.text.specs.Words.{words, next_word, words_between};
+ghost use Rattle.text.specs.Words.{between};
 
-use crate::blanks::{find_blank, scan_blank, skip_blanks, trim_end};
+use crate::blanks::{skip_blanks, trim_end};
 
-// A stretch of a text.
+// A stretch of a text. It goes beside its text: with the text inside, records of several words would say of each that its text is the same.
 #[derive(Clone, Copy)]
 pub struct Word {
     pub start: usize,
@@ -14,6 +14,17 @@ pub struct Word {
 }
 
 impl Word {
+    // The stretch from one place up to another.
+    pub fn between(from: usize, end: usize) -> Word
+        requires { from ≤ end }
+        ensures { result ≡ between from end }
+    {
+        Word {
+            start: from,
+            len: end - from,
+        }
+    }
+
     // Its bytes.
     #[tactic(auto, unfolding(laws::specs::Stretches::stretch))]
     pub fn bytes(self, text: &[u8]) -> &[u8]
@@ -24,94 +35,25 @@ impl Word {
     }
 }
 
-// The next word between two places; of length 0 if there is none.
-// An Option would be no plainer: an empty word has a place too, from which rows and numbers are read on.
-pub fn next_word(text: &[u8], from: usize, end: usize) -> Word
-    requires { (from ≤ end) × (end ≤ length text.now) }
-    ensures { (result ≡ next_word text.now from end) × (result.start + result.len ≤ end) }
-{
-    let s = skip_blanks(text, from, end);
-    let e = scan_blank(text, s, end);
-    Word {
-        start: s,
-        len: e - s,
-    }
-}
-
-// The same where words may be long, as names may: only the search for the end differs.
-pub fn next_name(text: &[u8], from: usize, end: usize) -> Word
-    requires { (from ≤ end) × (end ≤ length text.now) }
-    ensures { (result ≡ next_word text.now from end) × (result.start + result.len ≤ end) }
-{
-    let s = skip_blanks(text, from, end);
-    let e = find_blank(text, s, end);
-    Word {
-        start: s,
-        len: e - s,
-    }
-}
-
-// The words between two places, as an iterator gives them: those from `at` on are still to come. Each is found as names are, since it may be long.
-#[derive(Drop)]
+// The words between two places, as an iterator gives them: those from `at` on are still to come.
+#[derive(Clone, Copy)]
 pub struct Words<'a> {
-    text: &'a [u8],
-    at: usize,
-    end: usize,
+    pub text: &'a [u8],
+    pub at: usize,
+    pub end: usize,
     ghost inside: { (at ≤ end) × (end ≤ length text.now) },
 }
 
-// The words between two places, one after the other, as `for word in words_between(text, from, end)` takes them.
-pub fn words_between(text: &[u8], from: usize, end: usize) -> Words
-    requires { (from ≤ end) × (end ≤ length text.now) }
-    ensures { words_between result.text.now result.at result.end ≡ words from (stretch text.now from (end - from)) }
+// A stretch without the blanks at its ends.
+pub fn trim(text: &[u8], word: Word) -> Word
+    requires { word.start + word.len ≤ length text.now }
+    ensures { (result ≡ trimmed text.now word) × (word.start ≤ result.start) × (result.start + result.len ≤ word.start + word.len) }
 {
-    Words {
-        text,
-        at: from,
-        end,
+    let end = word.start + word.len;
+    let start = skip_blanks(text, word.start, end);
+    let left = Word::between(start, end);
+    Word {
+        start,
+        len: trim_end(left.bytes(text)).len(),
     }
-}
-
-impl<'a> Iterator for Words<'a> {
-    ghost use Rattle.std.specs.Iterator.{YieldsFirst, item_count};
-
-    type Item = Word;
-
-    ghost next_gives = { YieldsFirst (λ w. words_between w.text.now w.at w.end) };
-
-    ghost remaining = { item_count (λ w. words_between w.text.now w.at w.end) };
-
-    fn next(&mut self) -> Option<Word> {
-        let word = next_name(self.text, self.at, self.end);
-        if word.len == 0 {
-            return None;
-        }
-        self.at = word.start + word.len;
-        Some(word)
-    }
-}
-
-// How many words there are between two places.
-#[tactic(auto, using(crate::proofs::WordLaws::count_between))]
-pub fn count_words(text: &[u8], from: usize, end: usize) -> usize
-    requires { (from ≤ end) × (end ≤ length text.now) }
-    ensures { result ≡ length (words from (stretch text.now from (end - from))) }
-{
-    words_between(text, from, end).count()
-}
-
-// What stands between two places, without the blanks at its ends.
-pub fn trim(text: &[u8], from: usize, end: usize) -> Word
-    requires { (from ≤ end) × (end ≤ length text.now) }
-    ensures { (result ≡ trimmed text.now (record { start = from; len = end - from })) × (from ≤ result.start) × (result.start + result.len ≤ end) }
-{
-    let s = skip_blanks(text, from, end);
-    let n = trim_end(
-        text,
-        Word {
-            start: s,
-            len: end - s,
-        },
-    );
-    Word { start: s, len: n }
 }

@@ -5,10 +5,17 @@ use lib.Seq.{length-take-le}
 use Rattle.assurance.proofs.run_read.Goals as goal
 
 pub slice_bounds-order_and_run-end : goal.slice_bounds-order_and_run-end
-slice_bounds-order_and_run-end c = sym (length-take-le (c.args.sizes.nodes * 9) c.args.nodes.now (omega (arith, c.if-nodes-sizes.false)))
+slice_bounds-order_and_run-end c = sym (length-take-le (c.in-Ok.sizes.nodes * 9) c.args.nodes.now (omega (arith, c.if-nodes-sizes.false)))
 
 pub slice_bounds-order_and_run-end-2 : goal.slice_bounds-order_and_run-end-2
-slice_bounds-order_and_run-end-2 c = sym (length-take-le (c.args.sizes.outputs * 5) c.args.outputs.now (omega (arith, c.if-outputs-sizes.false)))
+slice_bounds-order_and_run-end-2 c = sym (length-take-le (c.in-Ok.sizes.outputs * 5) c.args.outputs.now (omega (arith, c.if-outputs-sizes.false)))
 
 pub returns : goal.returns
-returns c = record { carries = λ a b. c.order_and_run.ensures.carries; refuses_read = record { few_nodes = λ h. absurd (omega (arith, h, c.if-nodes-sizes.false)); few_outputs = λ h. absurd (omega (arith, h, c.if-outputs-sizes.false)); unordered = λ a b. c.order_and_run.ensures.refuses_unordered }; cleared = c.order_and_run.ensures.cleared }
+returns c =
+    let read = c.in-Ok.is in
+    record {
+      carries = rw read (λ a b. c.order_and_run.ensures.carries);
+      refuses_unread = rw read tt;
+      refuses_read = rw read (record { few_nodes = λ h. absurd (omega (arith, h, c.if-nodes-sizes.false)); few_outputs = λ h. absurd (omega (arith, h, c.if-outputs-sizes.false)); unordered = λ a b. c.order_and_run.ensures.refuses_unordered });
+      cleared = c.order_and_run.ensures.cleared;
+    }

@@ -1,6 +1,6 @@
 use Prim.Native.Nat.{◌/◌}
 use native.Mathlib.Omega.{arith}
-use Rattle.laws.proofs.Parts.{part_rest}
+use Rattle.std.proofs.lemmas.List.{take_rest}
 use Rattle.readyset.proofs.Levels.{first_or, first_here, first_single, first_past, first_found, rest_room, rest_levels}
 use Rattle.readyset.proofs.+next.Goals as goal
 
@@ -14,7 +14,7 @@ pub next-requires : goal.next-requires
 next-requires t c = (omega arith, (rest_room c.args.n c.args.area.now c.if-n-lt64.false c.requires.0, omega arith, rest_levels c.args.n c.args.area.now c.if-n-lt64.false c.requires.2))
 
 pub returns-in_err-found : goal.returns-in_err-found
-returns-in_err-found t c = rw c.from_residual.ensures (first_past _ _ _ c.if-rest-ne0.false (omega arith) c.if-n-lt64.false c.requires.2 _ (rw part_rest at c.in_err-found.ensures) (omega arith))
+returns-in_err-found t c = rw c.from_residual.ensures (first_past _ _ _ c.if-rest-ne0.false (omega arith) c.if-n-lt64.false c.requires.2 _ (rw take_rest at c.in_err-found.ensures) (omega arith))
 
 pub returns : goal.returns
-returns t c = rw c.then_some-2.ensures (first_or _ _ _ _ c.requires.1 (first_found _ _ _ c.if-rest-ne0.false (omega arith) c.if-n-lt64.false c.requires.2 _ (rw part_rest at c.in_ok-found.ensures.1) c.in_ok-found.ensures.0 (omega (arith, c.type_inv.area c.in_ok-found.found))))
+returns t c = rw c.then_some-2.ensures (first_or _ _ _ _ c.requires.1 (first_found _ _ _ c.if-rest-ne0.false (omega arith) c.if-n-lt64.false c.requires.2 _ (rw take_rest at c.in_ok-found.ensures.1) c.in_ok-found.ensures.0 (omega (arith, c.type_inv.area c.in_ok-found.found))))

@@ -1,12 +1,17 @@
 use lib.ListN.{length}
 use Rattle.reading.specs.Areas.{read_text}
-use Rattle.assured.proofs.Composing.{leaves_answer, refuses, assures}
+use Rattle.assured.proofs.Composing.{leaves_answer, composed}
 use Rattle.assured.proofs.joined_text.assured_text.Goals as goal
 
-pub returns-in-Err : goal.returns-in-Err
-returns-in-Err g c =
-    let p = refuses (read_text g.F.Format.lines c.args.text.now (length c.args.joined.now) (length c.args.nodes.now) (length c.args.names.now) (length c.args.outputs.now)) (length c.args.nodes.now) (length c.args.outputs.now) _ _ _ c.parse.ensures.answer c.parse.ensures.nodes_is c.parse.ensures.outputs_is c.args.window c.args.keys.now c.args.assignment.now c.args.values.now _ _ _ _ _ c.refuse_both.result _ _ _ _ _ _ _ c.in-Err.is c.refuse_both.ensures in record { leaves = leaves_answer c.args.text.now (read_text g.F.Format.lines c.args.text.now (length c.args.joined.now) (length c.args.nodes.now) (length c.args.names.now) (length c.args.outputs.now)) (length c.args.joined.now) (length c.args.nodes.now) (length c.args.names.now) (length c.args.outputs.now) _ _ _ _ _ c.parse.ensures; assures = p.0; refuses = p.1; cleared = record { ready_is = c.refuse_both.ensures.ready_is; successors_are = c.refuse_both.ensures.successors_are; values_are = c.refuse_both.ensures.run.values_are } }
-
-pub returns-in-Ok : goal.returns-in-Ok
-returns-in-Ok g c =
-    let p = assures (read_text g.F.Format.lines c.args.text.now (length c.args.joined.now) (length c.args.nodes.now) (length c.args.names.now) (length c.args.outputs.now)) (length c.args.nodes.now) (length c.args.outputs.now) _ _ _ c.parse.ensures.answer c.parse.ensures.nodes_is c.parse.ensures.outputs_is c.args.window c.args.keys.now c.args.assignment.now c.args.values.now _ _ _ _ _ c.run_read.result _ _ _ _ _ _ (g.met.F.Sound.sounds c.args.text.now (length c.args.joined.now) (length c.args.nodes.now) (length c.args.names.now) (length c.args.outputs.now)) _ c.in-Ok.is c.run_read.ensures.carries c.run_read.ensures.refuses_read in record { leaves = leaves_answer c.args.text.now (read_text g.F.Format.lines c.args.text.now (length c.args.joined.now) (length c.args.nodes.now) (length c.args.names.now) (length c.args.outputs.now)) (length c.args.joined.now) (length c.args.nodes.now) (length c.args.names.now) (length c.args.outputs.now) _ _ _ _ _ c.parse.ensures; assures = p.0; refuses = p.1; cleared = c.run_read.ensures.cleared }
+pub returns : goal.returns
+returns g c =
+    let j = length c.args.joined.now in
+    let n = length c.args.nodes.now in
+    let m = length c.args.names.now in
+    let o = length c.args.outputs.now in
+    let t = c.args.text.now in
+    let said = read_text g.F.Format.lines t j n m o in
+    let left = c.parse-read.ensures in
+    let ran = c.run_read.ensures in
+    let p = composed said n o _ _ _ left.answer left.nodes_is left.outputs_is c.args.asked.window c.args.asked.keys.now c.args.asked.assignment.now c.args.values.now _ _ _ _ _ c.run_read.result _ _ _ _ _ _ (g.met.F.Sound.sounds t j n m o) ran.carries ran.refuses_unread ran.refuses_read in
+    record { leaves = leaves_answer t said j n m o _ _ _ _ _ left; assures = p.0; refuses = p.1; cleared = ran.cleared }

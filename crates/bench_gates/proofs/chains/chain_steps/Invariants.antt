@@ -1,11 +1,18 @@
-use Rattle.std.proofs.Common.{◌≡◌, ◌+◌, ◌≤◌, length, Ok}
+use Rattle.std.proofs.Common.{ℕ, ◌≡◌, ◌+◌, length, drop}
 use Rattle.names.specs.Chains.{entries}
-use Rattle.bench_invocations.specs.Walks.{arguments_from}
-use Rattle.bench_gates.specs.Walks.{ChainedIs}
+use Rattle.reading.specs.Reading.{places_in}
+use Rattle.reading.specs.Holding.{NodesKept}
+use Rattle.bench_invocations.specs.Walks.{arguments_left}
+use Rattle.bench_gates.specs.Gates.{input_wires}
+use Rattle.bench_gates.specs.Walks.{rest_of}
+use Rattle.bench_gates.proofs.Chaining.{wires_in}
 use Rattle.bench_gates.proofs.chains.chain_steps.Given as goal
 
-abbrev pub invariant-loop-step : goal.invariant-loop-step
-invariant-loop-step l =
-    ChainedIs l.table.text.now (entries l.table.names.now l.table.count) l.plan.out l.operation l.plan.end (length l.initial.nodes) 1 l.initial.nodes l.initial.chained l.step l.nodes (Ok l.chained)
-    × (l.chained.at ≤ l.plan.end + 1)
-    × (length (arguments_from l.table.text.now l.chained.at l.plan.end) + l.step ≡ l.plan.inputs)
+abbrev pub invariant-loop-argument : goal.invariant-loop-argument
+invariant-loop-argument l =
+    let es = entries l.table.names.now l.table.count in
+    let wires = wires_in (input_wires l.table.text.now es (arguments_left l.plan.arguments)) in
+    NodesKept l.nodes l.chained.nodes
+    × (l.chained.step ≡ length l.yielded + 2)
+    × ((m k : ℕ) → rest_of es l.plan.out l.operation (places_in (length l.initial.nodes) m k) l.nodes l.chained (drop (3 + length l.yielded) wires)
+    ≡ rest_of es l.plan.out l.operation (places_in (length l.initial.nodes) m k) l.initial.nodes l.initial.chained (drop 3 wires))

@@ -1,25 +1,36 @@
 use Rattle.std.specs.Prelude.{Err, Ok}
+use mathlib.Core.Path.{◌∙◌}
 use lib.ListN.{length}
+use Rattle.std.proofs.Common.{rules}
 use Rattle.std.proofs.lemmas.Result.{err_from_is_err_and}
 use Rattle.circuit.specs.Records.{nodes_of}
 use Rattle.names.specs.Chains.{entries}
 use Rattle.reading.specs.Reading.{places_in}
-use Rattle.bench_gates.proofs.Lowering.{buffered, inverted, unknown}
+use Rattle.bench_gates.proofs.Lowering.{buffered, inverted, unknown, too_few, pair_made, triple_made, many_made}
 use Rattle.bench_gates.proofs.gates.lower_bench_gate.Goals as goal
 
-pub returns-in_err-named-in-Buf-clause-by_index : goal.returns-in_err-named-in-Buf-clause-by_index
-returns-in_err-named-in-Buf-clause-by_index c = λ l.
+pub returns-in_err-named-in-Buf-default-clause-by_index : goal.returns-in_err-named-in-Buf-default-clause-by_index
+returns-in_err-named-in-Buf-default-clause-by_index c = λ l.
     let p = err_from_is_err_and c.from_residual.result c.from_residual.ensures.1 in
-    rw (p.1, p.2) (buffered c.args.text.now (entries c.args.names.now c.args.counts.names) c.args.plan c.requires.driven (places_in (length c.args.nodes.now) (length c.args.names.now) l) (nodes_of c.args.nodes.now c.args.counts.nodes) c.in-Buf.is (Err c.in_err-named-in-Buf.field-0.0) c.in_err-named-in-Buf.ensures.count_after)
+    rw (p.1, p.2) (buffered c.args.text.now (entries c.args.names.now c.args.counts.names) c.args.plan c.requires.driven (places_in (length c.args.nodes.now) (length c.args.names.now) l) (nodes_of c.args.nodes.now c.args.counts.nodes) c.in-Buf-default.is-0 (Err c.in_err-named-in-Buf-default.field-0.0) c.in_err-named-in-Buf-default.ensures.count_after)
 
-pub returns-in_ok-named-in-Buf-clause-by_index : goal.returns-in_ok-named-in-Buf-clause-by_index
-returns-in_ok-named-in-Buf-clause-by_index c = λ l. buffered c.args.text.now (entries c.args.names.now c.args.counts.names) c.args.plan c.requires.driven (places_in (length c.args.nodes.now) (length c.args.names.now) l) (nodes_of c.args.nodes.now c.args.counts.nodes) c.in-Buf.is (Ok (entries c.lower_buffer.new.names c.in_ok-named-in-Buf.named)) c.in_ok-named-in-Buf.ensures.count_after
+pub returns-in_ok-named-in-Buf-default-clause-by_index : goal.returns-in_ok-named-in-Buf-default-clause-by_index
+returns-in_ok-named-in-Buf-default-clause-by_index c = λ l. buffered c.args.text.now (entries c.args.names.now c.args.counts.names) c.args.plan c.requires.driven (places_in (length c.args.nodes.now) (length c.args.names.now) l) (nodes_of c.args.nodes.now c.args.counts.nodes) c.in-Buf-default.is-0 (Ok (entries c.lower_buffer.new.names c.in_ok-named-in-Buf-default.named)) c.in_ok-named-in-Buf-default.ensures.count_after
 
-pub returns-in-Not-clause-by_index : goal.returns-in-Not-clause-by_index
-returns-in-Not-clause-by_index c = λ l. inverted c.args.text.now (entries c.args.names.now c.args.counts.names) c.args.plan c.requires.driven (places_in (length c.args.nodes.now) (length c.args.names.now) l) (nodes_of c.args.nodes.now c.args.counts.nodes) c.in-Not.is _ (c.lower_inverter.ensures.by_index l)
+pub returns-in-Not-default-clause-by_index : goal.returns-in-Not-default-clause-by_index
+returns-in-Not-default-clause-by_index c = λ l. inverted c.args.text.now (entries c.args.names.now c.args.counts.names) c.args.plan c.requires.driven (places_in (length c.args.nodes.now) (length c.args.names.now) l) (nodes_of c.args.nodes.now c.args.counts.nodes) c.in-Not-default.is-0 _ (c.lower_inverter.ensures.by_index l)
 
-pub returns-in-Chain-clause-by_index : goal.returns-in-Chain-clause-by_index
-returns-in-Chain-clause-by_index c = λ l. rw c.in-Chain.is (c.lower_chain.ensures.by_index l)
+pub returns-in-Chain-eq0-clause-by_index : goal.returns-in-Chain-eq0-clause-by_index
+returns-in-Chain-eq0-clause-by_index c = λ l. rw c.in-Chain-eq0.is-0 (too_few c.args.text.now (entries c.args.names.now c.args.counts.names) c.args.plan c.requires.driven (places_in (length c.args.nodes.now) (length c.args.names.now) l) (nodes_of c.args.nodes.now c.args.counts.nodes) c.in-Chain-eq0.field-0-0 (search rules))
 
-pub returns-in-Other-clause-by_index : goal.returns-in-Other-clause-by_index
-returns-in-Other-clause-by_index c = λ l. unknown c.args.text.now (entries c.args.names.now c.args.counts.names) c.args.plan c.requires.driven (places_in (length c.args.nodes.now) (length c.args.names.now) l) (nodes_of c.args.nodes.now c.args.counts.nodes) c.in-Other.is
+pub returns-in-Chain-eq2-clause-by_index : goal.returns-in-Chain-eq2-clause-by_index
+returns-in-Chain-eq2-clause-by_index c = λ l. rw c.in-Chain-eq2.is-0 (c.chain_pair.ensures.by_index l ∙ pair_made c.args.text.now (entries c.args.names.now c.args.counts.names) c.args.plan c.requires.driven (places_in (length c.args.nodes.now) (length c.args.names.now) l) (nodes_of c.args.nodes.now c.args.counts.nodes) c.in-Chain-eq2.o c.in-Chain-eq2.is-1)
+
+pub returns-in-Chain-eq3-clause-by_index : goal.returns-in-Chain-eq3-clause-by_index
+returns-in-Chain-eq3-clause-by_index c = λ l. rw c.in-Chain-eq3.is-0 (c.chain_triple.ensures.by_index l ∙ triple_made c.args.text.now (entries c.args.names.now c.args.counts.names) c.args.plan c.requires.driven (places_in (length c.args.nodes.now) (length c.args.names.now) l) (nodes_of c.args.nodes.now c.args.counts.nodes) c.in-Chain-eq3.o c.in-Chain-eq3.is-1)
+
+pub returns-in-Chain-default-clause-by_index : goal.returns-in-Chain-default-clause-by_index
+returns-in-Chain-default-clause-by_index c = λ l. many_made c.args.text.now (entries c.args.names.now c.args.counts.names) c.args.plan c.requires.driven (places_in (length c.args.nodes.now) (length c.args.names.now) l) (nodes_of c.args.nodes.now c.args.counts.nodes) c.in-Chain-default.o c.in-Chain-default.is-0 _ (c.chain_many.ensures.by_index l)
+
+pub returns-in-Other-default-clause-by_index : goal.returns-in-Other-default-clause-by_index
+returns-in-Other-default-clause-by_index c = λ l. unknown c.args.text.now (entries c.args.names.now c.args.counts.names) c.args.plan c.requires.driven (places_in (length c.args.nodes.now) (length c.args.names.now) l) (nodes_of c.args.nodes.now c.args.counts.nodes) c.in-Other-default.is-0

@@ -1,11 +1,27 @@
-use mathlib.Core.Path.{◌∙◌}
-use Rattle.blif.proofs.Plans.{plan-none, plan_of}
+use Prim.Native.Nat.{ℕ}
+use mathlib.Core.Path.{sym, ap, ◌∙◌}
+use mathlib.Core.List.{List}
+use native.Mathlib.Omega.{arith}
+use lib.ListN.{length}
+use Rattle.std.proofs.lemmas.Result.{err_from_is_err_and}
+use Rattle.cover.specs.Cover.{cover}
+use Rattle.cover.specs.Rows.{rows_left}
+use Rattle.blif.proofs.Plans.{plan_stop, plan_made}
 use Rattle.blif.proofs.gates.plan_gate.Goals as goal
 
-pub returns-then-g-eq0 : goal.returns-then-g-eq0
-returns-then-g-eq0 c = record { is = plan-none c.args.table.now.text.now _ _ _ c.gate_words-g.result c.gate_words-g.ensures.is c.if-g-eq0.true; inside = tt; fits = tt }
+pub returns-in_err-wires : goal.returns-in_err-wires
+returns-in_err-wires c =
+    let p = err_from_is_err_and c.from_residual-in_err-wires.result c.from_residual-in_err-wires.ensures.1 in
+    let some = c.in_ok-gate.ensures.ok_part in
+    rw (p.1, p.2)
+    (record { is = plan_stop c.args.table.now.text.now _ _ _ c.in_ok-gate.gate (sym some ∙ c.gate_words.ensures.is) c.find.result c.find.ensures c.if-is_some.ensures c.in_ok-inputs.inputs c.in_ok-inputs.ensures.ok_part _ c.in_err-wires.ensures; inside = tt })
 
 pub returns : goal.returns
 returns c =
-    let p = c.plan_words.ensures in
-    record { is = p.is ∙ plan_of c.args.table.now.text.now _ _ _ c.gate_words-g.result c.gate_words-g.ensures.is c.if-g-eq0.false; inside = p.inside; fits = p.fits }
+    let some = c.in_ok-gate.ensures.ok_part in
+    let rows = c.parse_cover.ensures ∙ ap (λ (t : List ℕ). cover t c.count.result (rows_left c.args.rows)) c.requires.same_text.1 ∙ ap (λ (n : ℕ). cover c.args.table.now.text.now n (rows_left c.args.rows)) c.count.ensures.0 in
+    let inside = rw some at c.gate_words.ensures.inside in
+    record {
+      is = plan_made c.args.table.now.text.now _ _ _ c.in_ok-gate.gate (sym some ∙ c.gate_words.ensures.is) c.find.result c.find.ensures c.if-is_some.ensures c.in_ok-inputs.inputs c.in_ok-inputs.ensures.ok_part _ c.in_ok-wires.ensures c.parse_cover.result rows c.in_ok-truth_table.truth_table c.in_ok-truth_table.ensures.ok_part;
+      inside = omega (arith, inside.out, c.args.words.inside, ap length c.requires.same_text.0);
+    }

@@ -2,8 +2,8 @@ use mathlib.Core.Path.{◌≡◌}
 use mathlib.Core.Bool.{false}
 use lib.ListN.{length}
 use Rattle.laws.specs.Stretches.{All}
-use Rattle.text.specs.Words.{IsWord, words_between}
-use Rattle.text.proofs.WordLaws.{words_left}
+use Rattle.text.specs.Words.{IsWord}
+use Rattle.text.specs.Iterators.{words_left}
 use Rattle.reading.specs.Reading.{places_in, add_input, each}
 use Rattle.reading.specs.Holding.{held_of, Kept}
 use Rattle.blif.proofs.words.input_words.Given as goal
@@ -15,6 +15,6 @@ invariant-loop-word l =
     × (goal.iterator-loop-word).is_finite l.word-iterator
     × (length l.nodes ≡ length l.initial.nodes)
     × (length l.names ≡ length l.initial.names)
-    × All (IsWord l.text l.from l.end) (words_left l.word-iterator)
+    × All (IsWord l.text l.fn.words.at l.fn.words.end) (words_left l.word-iterator)
     × Kept l.text l.heads l.nodes l.names l.held
-    × (each step (words_left l.word-iterator) (held_of l.nodes l.names l.held) ≡ each step (words_between l.text l.from l.end) (held_of l.initial.nodes l.initial.names l.initial.held))
+    × (each step (words_left l.word-iterator) (held_of l.nodes l.names l.held) ≡ each step (words_left l.fn.words) (held_of l.initial.nodes l.initial.names l.initial.held))

@@ -2,8 +2,8 @@ use mathlib.Core.Path.{◌≡◌}
 use lib.ListN.{length}
 use Rattle.laws.specs.Areas.{capacity}
 use Rattle.laws.specs.Stretches.{All}
-use Rattle.text.specs.Words.{IsWord, words_between}
-use Rattle.text.proofs.WordLaws.{words_left}
+use Rattle.text.specs.Words.{IsWord}
+use Rattle.text.specs.Iterators.{words_left}
 use Rattle.reading.specs.Reading.{add_output, each}
 use Rattle.reading.specs.Holding.{words_of, WordsKept}
 use Rattle.blif.proofs.words.output_words.Given as goal
@@ -14,6 +14,6 @@ invariant-loop-word l =
     (goal.iterator-loop-word).can_next l.word-iterator
     × (goal.iterator-loop-word).is_finite l.word-iterator
     × (length l.outputs ≡ length l.initial.outputs)
-    × All (IsWord l.text l.from l.end) (words_left l.word-iterator)
+    × All (IsWord l.text l.fn.words.at l.fn.words.end) (words_left l.word-iterator)
     × WordsKept l.text l.outputs l.n
-    × (each step (words_left l.word-iterator) (words_of l.outputs l.n) ≡ each step (words_between l.text l.from l.end) (words_of l.initial.outputs l.count))
+    × (each step (words_left l.word-iterator) (words_of l.outputs l.n) ≡ each step (words_left l.fn.words) (words_of l.initial.outputs l.count))

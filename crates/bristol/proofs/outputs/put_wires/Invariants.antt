@@ -1,6 +1,6 @@
-use Rattle.std.proofs.Common.{◌≡◌, length}
+use Rattle.std.proofs.Common.{drop}
 use Rattle.bristol.proofs.StoreLaws.{Putting}
 use Rattle.bristol.proofs.outputs.put_wires.Given as goal
 
-abbrev pub invariant-loop-k : goal.invariant-loop-k
-invariant-loop-k l = (l.k-end ≡ length l.wires) × Putting l.wires l.from l.room l.k l.outputs
+abbrev pub invariant-loop-count : goal.invariant-loop-count
+invariant-loop-count l = Putting (drop l.from l.wires) l.from l.room l.count l.outputs

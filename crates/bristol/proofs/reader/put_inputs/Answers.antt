@@ -11,7 +11,7 @@ use Rattle.bristol.proofs.reader.put_inputs.Goals as goal
 pub loop-k-preserved : goal.loop-k-preserved
 loop-k-preserved c =
     subst (HoldsNodes c.put_node.new.nodes) (sym (up_next input_node c.loop-k.k))
-    (hold_node c.loop-k.nodes c.put_node.new.nodes (up_from input_node 0 c.loop-k.k) (input_node c.loop-k.k) c.loop-k.k (length_up input_node 0 c.loop-k.k) c.put_node.ensures c.put_node.auto.nodes c.loop-k.invariant)
+    (hold_node c.loop-k.nodes c.put_node.new.nodes (up_from input_node 0 c.loop-k.k) (input_node c.loop-k.k) c.loop-k.k (length_up input_node 0 c.loop-k.k) (rw c.input.ensures at c.put_node.ensures) c.put_node.auto.nodes c.loop-k.invariant)
 
 pub returns : goal.returns
 returns c =

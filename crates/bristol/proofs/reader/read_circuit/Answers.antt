@@ -2,10 +2,11 @@ use Rattle.std.proofs.Common.{◌≡◌, ℕ, ◌-◌, ◌≤◌, List, ◌++◌
 use mathlib.Core.Path.{◌∙◌}
 use lib.ListN.{replicate}
 use lib.Seq.{length-take-le}
+use Rattle.std.proofs.lemmas.List.{drop-replicate, take-replicate}
 use Rattle.laws.specs.Areas.{capacity}
-use Rattle.laws.proofs.Areas.{drop-replicate}
-use Rattle.laws.proofs.Sums.{take_zeros}
 use Rattle.circuit.specs.Records.{encode_node, encode_output}
+use Rattle.text.specs.Iterators.{kept_left}
+use Rattle.bristol.specs.Bristol.{circuit}
 use Rattle.bristol.proofs.ReadLaws.{zeros_hold, leaves_more, circuit-body}
 use Rattle.bristol.proofs.reader.read_circuit.Goals as goal
 
@@ -16,33 +17,33 @@ slice_bounds-read_clean-end c = omega (arith, c.records_in.ensures, c.if-records
 pub slice_bounds-read_clean-end-2 : goal.slice_bounds-read_clean-end-2
 unfolding capacity
 slice_bounds-read_clean-end-2 c =
-    let l : c.in_ok-head.field-0.head.wires ≤ length c.args.wires.now = omega (arith, c.records_in.ensures, c.if-records_in-head.false) in
-    sym (length-take-le c.in_ok-head.field-0.head.wires c.args.wires.now l)
+    let l : c.in_ok-head.head.wires ≤ length c.args.wires.now = omega (arith, c.records_in.ensures, c.if-records_in-head.false) in
+    sym (length-take-le c.in_ok-head.head.wires c.args.wires.now l)
 
 pub read_clean-requires : goal.read_clean-requires
 unfolding capacity
 read_clean-requires c =
-    let n : ℕ = c.in_ok-head.field-0.head.wires in
+    let n : ℕ = c.in_ok-head.head.wires in
     let g = c.in_ok-head.ensures in
     let l : n ≤ length c.args.wires.now = omega (arith, c.records_in.ensures, c.if-records_in-head.false) in
     record {
-      reach = g.reach;
       fits = g.fits;
       room = omega (arith, c.records_in-else-records_in-head.ensures, c.if-records_in-head-2.false);
       nodes_empty = zeros_hold encode_node 9 c.args.nodes.now c.requires.0;
       outputs_empty = zeros_hold encode_output 5 c.args.outputs.now c.requires.1;
-      wires_zero = ap (take n) c.requires.2 ∙ take_zeros n (length c.args.wires.now) l;
+      wires_zero = ap (take n) c.requires.2 ∙ take-replicate {X = ℕ} n (length c.args.wires.now) 0 l;
     }
 
 pub returns : goal.returns
 unfolding capacity
 returns c =
-    let n : ℕ = c.in_ok-head.field-0.head.wires in
+    let n : ℕ = c.in_ok-head.head.wires in
     let l : n ≤ length c.args.wires.now = omega (arith, c.records_in.ensures, c.if-records_in-head.false) in
     let k : length (take n c.args.wires.now) ≡ n = length-take-le n c.args.wires.now l in
     let z : length c.args.wires.now - n ≡ length c.args.wires.now - length (take n c.args.wires.now) = omega (arith, k) in
     leaves_more (length c.args.nodes.now) (length c.args.outputs.now) (length (take n c.args.wires.now)) (length c.args.wires.now) _ _
-    (circuit-body c.args.text.now (capacity 9 (length c.args.nodes.now)) (capacity 5 (length c.args.outputs.now)) (capacity 1 (length c.args.wires.now)) c.in_ok-head.field-0.head c.in_ok-head.field-0.rest c.in_ok-head.ensures
-    (omega (arith, c.records_in.ensures, c.if-records_in-head.false)) (omega (arith, c.records_in-else-records_in-head.ensures, c.if-records_in-head-2.false)))
+    (circuit-body (kept_left c.kept_lines-lines.result) (kept_left c.read_header.new.lines) (capacity 9 (length c.args.nodes.now)) (capacity 5 (length c.args.outputs.now)) (capacity 1 (length c.args.wires.now)) c.in_ok-head.head c.in_ok-head.ensures
+    (omega (arith, c.records_in.ensures, c.if-records_in-head.false)) (omega (arith, c.records_in-else-records_in-head.ensures, c.if-records_in-head-2.false))
+    ∙ ap (circuit (capacity 9 (length c.args.nodes.now)) (capacity 5 (length c.args.outputs.now)) (capacity 1 (length c.args.wires.now))) c.kept_lines-lines.ensures)
     c.read_clean.result c.read_clean.new.nodes c.read_clean.new.outputs c.read_clean.new.wires _ (omega (arith, k))
-    (ap (λ (x : List ℕ). c.read_clean.new.wires ++ x) (ap (drop n) c.requires.2 ∙ drop-replicate n (length c.args.wires.now) 0 ∙ ap (λ (m : ℕ). replicate m 0) z)) c.read_clean.ensures
+    (ap (λ (x : List ℕ). c.read_clean.new.wires ++ x) (ap (drop n) c.requires.2 ∙ drop-replicate {X = ℕ} n (length c.args.wires.now) 0 ∙ ap (λ (m : ℕ). replicate m 0) z)) c.read_clean.ensures

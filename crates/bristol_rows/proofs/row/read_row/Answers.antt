@@ -1,24 +1,27 @@
 use lib.ListN.{length}
 use Rattle.std.proofs.lemmas.Result.{err_from_is_err_and}
-use Rattle.bristol_rows.proofs.Exits.{refusal_given}
-use Rattle.bristol_rows.proofs.NumberLaws.{words_whole, first-number, first_invalid}
-use Rattle.bristol_rows.proofs.RowLaws.{row-none, row-first_invalid, row_by, told}
+use Rattle.bristol_rows.proofs.RowLaws.{arity_read, first_refused, second_refused, outputs_refused, wires_read}
 use Rattle.bristol_rows.proofs.row.read_row.Goals as goal
 
-pub returns-in_err-x : goal.returns-in_err-x
-returns-in_err-x c =
+pub returns-in_err-inputs : goal.returns-in_err-inputs
+returns-in_err-inputs c =
     let p = err_from_is_err_and c.from_residual.result c.from_residual.ensures.1 in
-    rw (p.1, p.2, refusal_given _ _ _ c.in_err-x.ensures.value, ← words_whole c.args.line.now) (row-none c.args.wires.now (length c.args.wires.now) _ (rw c.in_err-x.ensures.ok_part at c.next_number.ensures))
+    rw (p.1, p.2, ← c.split_whitespace-words.ensures) (first_refused c.args.wires.now (length c.args.wires.now) _ _ c.in_err-inputs.ensures.0)
 
-pub returns-in_default : goal.returns-in_default
-returns-in_default c =
-    let f = rw c.in_ok-x.ensures.ok_part at c.next_number.ensures in
-    rw (← words_whole c.args.line.now) (row_by c.args.wires.now (length c.args.wires.now) f.word _ _ f.is _
-    (told (length c.args.wires.now) _ c.arity_invalid.result _ c.arity_invalid.ensures
-    (row-first_invalid c.args.wires.now (length c.args.wires.now) f.word _ (first_invalid c.args.line.now 0 c.in_ok-x.x f c.in_default.is))))
+pub returns-in_err-outputs : goal.returns-in_err-outputs
+returns-in_err-outputs c =
+    let p = err_from_is_err_and c.from_residual-in_err-outputs.result c.from_residual-in_err-outputs.ensures.1 in
+    let i = arity_read 3 _ _ c.in_ok-inputs.inputs c.in_ok-inputs.ensures.0 c.in_ok-inputs.ensures.1 in
+    rw (p.1, p.2, ← c.split_whitespace-words.ensures) (second_refused c.args.wires.now (length c.args.wires.now) _ _ c.in_ok-inputs.inputs i _ c.in_err-outputs.ensures.0)
+
+pub returns-then-outputs-ne1 : goal.returns-then-outputs-ne1
+returns-then-outputs-ne1 c =
+    let i = arity_read 3 _ _ c.in_ok-inputs.inputs c.in_ok-inputs.ensures.0 c.in_ok-inputs.ensures.1 in
+    let o = arity_read 2 _ _ c.in_ok-outputs.outputs c.in_ok-outputs.ensures.0 c.in_ok-outputs.ensures.1 in
+    rw (c.outputs_wrong.ensures, ← c.split_whitespace-words.ensures) (outputs_refused c.args.wires.now (length c.args.wires.now) _ _ c.in_ok-inputs.inputs i _ c.in_ok-outputs.outputs o c.if-outputs-ne1.true)
 
 pub returns : goal.returns
 returns c =
-    let f = rw c.in_ok-x.ensures.ok_part at c.next_number.ensures in
-    rw (← words_whole c.args.line.now) (row_by c.args.wires.now (length c.args.wires.now) f.word _ _ f.is c.row_after.result
-    (c.row_after.ensures f.word (first-number c.args.line.now 0 c.in_ok-x.x f c.in-Some.inputs c.in-Some.is)))
+    let i = arity_read 3 _ _ c.in_ok-inputs.inputs c.in_ok-inputs.ensures.0 c.in_ok-inputs.ensures.1 in
+    let o = arity_read 2 _ _ c.in_ok-outputs.outputs c.in_ok-outputs.ensures.0 c.in_ok-outputs.ensures.1 in
+    rw (← c.split_whitespace-words.ensures) (wires_read c.args.wires.now (length c.args.wires.now) _ _ c.in_ok-inputs.inputs i _ c.in_ok-outputs.outputs o c.if-outputs-ne1.false c.row_wires.result c.row_wires.ensures)

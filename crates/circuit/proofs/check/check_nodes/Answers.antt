@@ -6,15 +6,15 @@ use Rattle.circuit.proofs.Checks.{scan_start, scan_end, scan_fault, scan_passed}
 use Rattle.circuit.proofs.check.check_nodes.Goals as goal
 
 pub loop-i-init : goal.loop-i-init
-loop-i-init c = (scan_start c.args.nodes.now c.args.count, zero-le)
+loop-i-init c = (scan_start c.args.nodes.words.now c.args.nodes.count, zero-le)
 
 pub returns-in_err-check_node : goal.returns-in_err-check_node
 returns-in_err-check_node c =
     let p = err_from_is_err_and c.from_residual.result c.from_residual.ensures.1 in
-    rw (p.1, p.2) (sym (c.loop-i.invariant.0 ∙ scan_fault c.args.nodes.now c.args.count c.loop-i.i c.loop-i-test.true c.node_at.result c.node_at.ensures _ (sym c.in_err-check_node.ensures)))
+    rw (p.1, p.2) (sym (c.loop-i.invariant.0 ∙ scan_fault c.args.nodes.words.now c.args.nodes.count c.loop-i.i c.loop-i-test.true c.at.result c.at.ensures _ (sym c.in_err-check_node.ensures)))
 
 pub loop-i-preserved : goal.loop-i-preserved
-loop-i-preserved c = (c.loop-i.invariant.0 ∙ scan_passed c.args.nodes.now c.args.count c.loop-i.i c.loop-i-test.true c.node_at.result c.node_at.ensures (sym c.in_ok-check_node.ensures), omega arith)
+loop-i-preserved c = (c.loop-i.invariant.0 ∙ scan_passed c.args.nodes.words.now c.args.nodes.count c.loop-i.i c.loop-i-test.true c.at.result c.at.ensures (sym c.in_ok-check_node.ensures), omega arith)
 
 pub returns : goal.returns
-returns c = sym (c.loop-i.invariant.0 ∙ scan_end c.args.nodes.now c.args.count c.loop-i.i c.loop-i-test.false)
+returns c = sym (c.loop-i.invariant.0 ∙ scan_end c.args.nodes.words.now c.args.nodes.count c.loop-i.i c.loop-i-test.false)

@@ -5,4 +5,4 @@ use Rattle.circuit.proofs.Checks.{rest}
 use Rattle.circuit.proofs.check.check_nodes.Given as goal
 
 abbrev pub invariant-loop-i : goal.invariant-loop-i
-invariant-loop-i l = (check_nodes l.count 0 (nodes_of l.nodes l.count) ≡ rest l.nodes l.count l.i) × (l.i ≤ l.count)
+invariant-loop-i l = (check_nodes l.nodes.count 0 (nodes_of l.nodes.words.now l.nodes.count) ≡ rest l.nodes.words.now l.nodes.count l.i) × (l.i ≤ l.nodes.count)

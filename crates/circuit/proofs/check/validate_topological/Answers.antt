@@ -10,10 +10,10 @@ returns-then-not-are_whole c = topological_partial c.args.nodes.now c.args.outpu
 pub returns-in_err-check_nodes : goal.returns-in_err-check_nodes
 returns-in_err-check_nodes c =
     let p = err_from_is_err_and c.from_residual.result c.from_residual.ensures.1 in
-    rw (p.1, p.2) (sym (topological_whole c.args.nodes.now c.args.outputs.now (sym c.if-not-are_whole.ensures) ∙ rw (sym c.in_err-check_nodes.ensures)))
+    rw (p.1, p.2) (sym (topological_whole c.args.nodes.now c.args.outputs.now (sym c.if-not-are_whole.ensures) ∙ rw (sym (rw (c.of-records.ensures.0, c.of-records.ensures.1) at c.in_err-check_nodes.ensures))))
 
-pub returns-then-some_output_outside : goal.returns-then-some_output_outside
-returns-then-some_output_outside c = sym (topological_whole c.args.nodes.now c.args.outputs.now (sym c.if-not-are_whole.ensures) ∙ rw (sym c.in_ok-check_nodes.ensures, sym c.if-some_output_outside.ensures))
+pub returns-then-output_outside : goal.returns-then-output_outside
+returns-then-output_outside c = sym (topological_whole c.args.nodes.now c.args.outputs.now (sym c.if-not-are_whole.ensures) ∙ rw (sym (rw (c.of-records.ensures.0, c.of-records.ensures.1) at c.in_ok-check_nodes.ensures), sym (rw (c.of.ensures.0, c.of.ensures.1, c.of-records.ensures.1) at c.if-output_outside.ensures)))
 
 pub returns : goal.returns
-returns c = sym (topological_whole c.args.nodes.now c.args.outputs.now (sym c.if-not-are_whole.ensures) ∙ rw (sym c.in_ok-check_nodes.ensures, sym c.if-some_output_outside.ensures))
+returns c = sym (topological_whole c.args.nodes.now c.args.outputs.now (sym c.if-not-are_whole.ensures) ∙ rw (sym (rw (c.of-records.ensures.0, c.of-records.ensures.1) at c.in_ok-check_nodes.ensures), sym (rw (c.of.ensures.0, c.of.ensures.1, c.of-records.ensures.1) at c.if-output_outside.ensures)))

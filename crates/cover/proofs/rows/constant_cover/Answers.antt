@@ -1,20 +1,20 @@
-use mathlib.Core.Path.{refl}
-use Rattle.cover.proofs.RowLaws.{constant-none, constant_bad, constant_last}
-use Rattle.cover.proofs.DirectiveLaws.{rows_end, rows_dot, rows_next}
+use native.Mathlib.Omega.{arith}
+use Rattle.text.specs.Words.{IsWord}
+use Rattle.text.proofs.WordLaws.{each_word}
+use Rattle.cover.proofs.RowLaws.{constant_bad, constant_last, last_given, last_word}
 use Rattle.cover.proofs.rows.constant_cover.Goals as goal
-use Rattle.cover.proofs.rows.constant_cover.Goals.{then-size-from-via-then-size-from, then-size-from-via-else-size-from+then-text-from-eq46}
 
-pub returns-then-size-from : goal.returns-then-size-from
-returns-then-size-from c =
-    constant-none _ _ (elim c.then-size-from.branch [
-      | then-size-from-via-then-size-from w ↦ rows_end c.args.text.now c.args.from c.args.size w.if-size-from.true
-      | then-size-from-via-else-size-from+then-text-from-eq46 w ↦ rows_dot c.args.text.now c.args.from c.args.size _ w.if-size-from.false c.requires refl w.if-text-from-eq46.true
-    ])
+pub returns-in_err-last-in-Some : goal.returns-in_err-last-in-Some
+returns-in_err-last-in-Some c =
+    rw c.from_residual.ensures (constant_bad c.args.rows.lines.text.now _ _ _ c.in-Some.ensures.steps.first (last_given c.in-Some.words _ c.in_err-last-in-Some.ensures.ran))
 
-pub returns-then-gate-eq0 : goal.returns-then-gate-eq0
-returns-then-gate-eq0 c =
-    constant_bad c.args.text.now _ _ _ c.gate_words-gate.result c.gate_words-gate.ensures.is (rows_next c.args.text.now c.args.from c.args.size c.find_byte.result c.if-size-from.false c.requires c.find_byte.ensures.0 c.if-text-from-eq46.false) c.if-gate-eq0.true
+pub bytes-requires : goal.bytes-requires
+bytes-requires c =
+    let words = c.in-Some.words in
+    let word = last_word (IsWord words.text.now words.at words.end) _ _ (each_word words.text.now words.at words.end) (last_given words _ c.in_ok-last-in-Some.ensures.ran) in
+    omega (arith, word.inside, words.inside)
 
-pub returns-else-gate-eq0 : goal.returns-else-gate-eq0
-returns-else-gate-eq0 c =
-    constant_last c.args.text.now _ _ _ c.gate_words-gate.result c.gate_words-gate.ensures.is (rows_next c.args.text.now c.args.from c.args.size c.find_byte.result c.if-size-from.false c.requires c.find_byte.ensures.0 c.if-text-from-eq46.false) _ c.if-gate-eq0.false c.parse_bit.ensures
+pub returns-in_ok-last-in-Some : goal.returns-in_ok-last-in-Some
+returns-in_ok-last-in-Some c =
+    let bit = rw (c.bytes.ensures, c.in-Some.ensures.steps.row_text) at c.parse_bit.ensures.is in
+    constant_last c.args.rows.lines.text.now _ _ _ _ _ c.in-Some.ensures.steps.first (last_given c.in-Some.words _ c.in_ok-last-in-Some.ensures.ran) bit

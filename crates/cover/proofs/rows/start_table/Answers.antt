@@ -1,12 +1,9 @@
 use Prim.Native.Nat.{ℕ, ◌-◌, ◌^◌}
 use mathlib.Core.Path.{◌≡◌, ap, ◌∙◌}
 use native.Mathlib.Omega.{arith}
-use Rattle.cover.proofs.RowLaws.{start-one, start-zero}
+use Rattle.cover.proofs.RowLaws.{start-zero}
 use Rattle.laws.proofs.Rows.{shifted_ones}
 use Rattle.cover.proofs.rows.start_table.Goals as goal
-
-pub returns-then-value-eq1 : goal.returns-then-value-eq1
-returns-then-value-eq1 c = start-one _ _ c.if-value-eq1.true
 
 pub returns-else-value-eq1 : goal.returns-else-value-eq1
 returns-else-value-eq1 c =

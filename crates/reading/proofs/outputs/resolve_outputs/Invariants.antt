@@ -6,4 +6,4 @@ use Rattle.reading.proofs.Resolving.{Mid}
 use Rattle.reading.proofs.outputs.resolve_outputs.Given as goal
 
 abbrev pub invariant-loop-j : goal.invariant-loop-j
-invariant-loop-j l = (l.j ≤ l.n) × (length l.outputs ≡ length l.initial.outputs) × Mid l.constants l.table.text.now (entries l.table.names.now l.table.count) l.initial.outputs l.outputs l.n l.j
+invariant-loop-j g l = (l.j ≤ l.n) × (length l.outputs ≡ length l.initial.outputs) × Mid g.F.Names.constants l.table.text.now (entries l.table.names.now l.table.count) l.initial.outputs l.outputs l.n l.j

@@ -14,4 +14,4 @@ fit_pass-requires c = (c.requires, marks_none c.args.lo (length c.args.marks.now
 
 pub returns : goal.returns
 returns c =
-    c.fit_pass.ensures ∙ ap (λ (size : ℕ). fit_in (within c.args.lo (size * 64)) (graph_of (nodes_of c.args.nodes.now c.args.count)) [] c.args.order.now) c.fill.auto.self
+    c.fit_pass.ensures ∙ ap (λ (size : ℕ). fit_in (within c.args.lo (size * 64)) (graph_of (nodes_of c.args.nodes.words.now c.args.nodes.count)) [] c.args.order.now) c.fill.auto.self

@@ -4,11 +4,11 @@ use borrow.Author.Tests.{ne_eqb}
 use Rattle.runs.proofs.Calls.{inputs-fit, list_fit, list_unfit}
 use Rattle.runs.proofs.fitness.fit_list.Goals as goal
 
-pub overflow_sub-count : goal.overflow_sub-count
-overflow_sub-count c = omega (arith, c.requires.1, inputs-fit c.args.nodes.now c.args.count)
+pub overflow_sub-nodes : goal.overflow_sub-nodes
+overflow_sub-nodes c = omega (arith, c.requires.1, inputs-fit c.args.nodes.words.now c.args.nodes.count)
 
-pub returns-then-order-count : goal.returns-then-order-count
-returns-then-order-count c = c.fit_marked.ensures ∙ list_fit c.args.nodes.now c.args.count c.args.inputs c.args.order.now c.requires.1 c.if-order-count.true
+pub returns-then-order-nodes : goal.returns-then-order-nodes
+returns-then-order-nodes c = c.is_some.ensures ∙ c.fit_marked.ensures ∙ list_fit c.args.nodes.words.now c.args.nodes.count c.args.inputs c.args.order.now c.requires.1 c.if-order-nodes.true
 
-pub returns-else-order-count : goal.returns-else-order-count
-returns-else-order-count c = rw (ne_eqb _ _ c.if-order-count.false) (list_unfit c.args.nodes.now c.args.count c.args.inputs c.args.order.now c.requires.1 c.if-order-count.false)
+pub returns-else-order-nodes : goal.returns-else-order-nodes
+returns-else-order-nodes c = rw (ne_eqb _ _ c.if-order-nodes.false) (list_unfit c.args.nodes.words.now c.args.nodes.count c.args.inputs c.args.order.now c.requires.1 c.if-order-nodes.false)

@@ -12,19 +12,19 @@ loop-k-init c = (refl, zero-le, c.wire_count-k-end.ensures)
 
 pub wire_waits-requires : goal.wire_waits-requires
 wire_waits-requires c =
-    (c.requires.0, ap (not_below c.args.count) c.wire_at-w.ensures ∙ none_at (not_below c.args.count) (wires_of c.args.n) no_wire c.loop-k.k (omega (arith, c.loop-k.invariant.2)) c.requires.1)
+    ap (not_below c.args.nodes.count) c.wire_at-w.ensures ∙ none_at (not_below c.args.nodes.count) (wires_of c.args.n) no_wire c.loop-k.k (omega (arith, c.loop-k.invariant.2)) c.requires
 
 pub returns-then-wire_waits : goal.returns-then-wire_waits
 returns-then-wire_waits c =
-    sym (c.loop-k.invariant.0 ∙ some_here (wire_waits c.args.nodes.now c.args.lo c.args.marks.now) (wires_of c.args.n) no_wire c.loop-k.k (omega (arith, c.loop-k.invariant.2)) (ap (wire_waits c.args.nodes.now c.args.lo c.args.marks.now) (sym c.wire_at-w.ensures) ∙ sym c.wire_waits.ensures ∙ c.if-wire_waits.true))
+    sym (c.loop-k.invariant.0 ∙ some_here (wire_waits c.args.nodes.words.now c.args.lo c.args.marks.now) (wires_of c.args.n) no_wire c.loop-k.k (omega (arith, c.loop-k.invariant.2)) (ap (wire_waits c.args.nodes.words.now c.args.lo c.args.marks.now) (sym c.wire_at-w.ensures) ∙ sym c.wire_waits.ensures ∙ c.if-wire_waits.true))
 
 pub loop-k-preserved : goal.loop-k-preserved
 loop-k-preserved c = (
-  c.loop-k.invariant.0 ∙ some-later (wire_waits c.args.nodes.now c.args.lo c.args.marks.now) (wires_of c.args.n) no_wire c.loop-k.k (omega (arith, c.loop-k.invariant.2)) (ap (wire_waits c.args.nodes.now c.args.lo c.args.marks.now) (sym c.wire_at-w.ensures) ∙ sym c.wire_waits.ensures ∙ c.if-wire_waits.false),
+  c.loop-k.invariant.0 ∙ some-later (wire_waits c.args.nodes.words.now c.args.lo c.args.marks.now) (wires_of c.args.n) no_wire c.loop-k.k (omega (arith, c.loop-k.invariant.2)) (ap (wire_waits c.args.nodes.words.now c.args.lo c.args.marks.now) (sym c.wire_at-w.ensures) ∙ sym c.wire_waits.ensures ∙ c.if-wire_waits.false),
   omega arith,
   c.loop-k.invariant.2,
 )
 
 pub returns : goal.returns
 returns c =
-    sym (c.loop-k.invariant.0 ∙ some_past (wire_waits c.args.nodes.now c.args.lo c.args.marks.now) (wires_of c.args.n) c.loop-k.k (omega (arith, c.loop-k.invariant.2)))
+    sym (c.loop-k.invariant.0 ∙ some_past (wire_waits c.args.nodes.words.now c.args.lo c.args.marks.now) (wires_of c.args.n) c.loop-k.k (omega (arith, c.loop-k.invariant.2)))

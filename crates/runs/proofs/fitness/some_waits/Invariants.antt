@@ -6,4 +6,4 @@ use Rattle.runs.specs.Fit.{some_waits}
 use Rattle.runs.proofs.fitness.some_waits.Given as goal
 
 abbrev pub invariant-loop-k : goal.invariant-loop-k
-invariant-loop-k l = (some_waits l.nodes l.lo l.marks (wires_of l.n) ≡ some_waits l.nodes l.lo l.marks (drop l.k (wires_of l.n))) × (l.k ≤ l.k-end) × (l.k-end ≡ length (wires_of l.n))
+invariant-loop-k l = (some_waits l.nodes.words.now l.lo l.marks (wires_of l.n) ≡ some_waits l.nodes.words.now l.lo l.marks (drop l.k (wires_of l.n))) × (l.k ≤ l.k-end) × (l.k-end ≡ length (wires_of l.n))

@@ -7,4 +7,4 @@ use Rattle.runs.proofs.outputs.give.Goals as goal
 
 pub returns : goal.returns
 returns c =
-    (filled_zeros _ _ (length c.args.answers.now) c.args.count (outputs_from c.args.values.now (output_wires c.args.outputs.now c.args.count)) c.put_outputs.ensures (c.fill.ensures.after (search rules)), c.fill-2.ensures.after (search rules))
+    (filled_zeros _ _ (length c.args.answers.now) c.args.outputs.count (outputs_from c.args.values.now (output_wires c.args.outputs.words.now c.args.outputs.count)) c.put_outputs.ensures (c.fill.ensures.after (search rules)), c.fill-2.ensures.after (search rules))

@@ -8,7 +8,7 @@ use Rattle.circuit.proofs.Checks.{is_whole}
 use Rattle.runs.specs.Work.{Prepared}
 use Rattle.runs.proofs.Calls.{has_room, room_of}
 use Rattle.runs.proofs.Passing.{tell, wholes}
-use Rattle.runs.proofs.outputs.prepared.Goals.{then-not-are_whole-via-then-not-are_whole, then-not-are_whole-via-else-not-are_whole+then-some_above, then-not-are_whole-via-else-not-are_whole+else-some_above+then-some_output_outside}
+use Rattle.runs.proofs.outputs.prepared.Goals.{then-not-are_whole-via-then-not-are_whole, then-not-are_whole-via-else-not-are_whole+then-some_above, then-not-are_whole-via-else-not-are_whole+else-some_above+then-output_outside}
 use Rattle.runs.proofs.outputs.prepared.Goals as goal
 
 no_refusal : (f : Checked) → is_ok f ≡ true → f ≡ Ok tt
@@ -19,7 +19,7 @@ pub returns-then-not-are_whole : goal.returns-then-not-are_whole
 returns-then-not-are_whole c = λ p. elim c.then-not-are_whole.branch [
   | then-not-are_whole-via-then-not-are_whole w ↦ clash (is_whole c.args.nodes.now c.args.outputs.now p.whole_nodes p.whole_outputs) (sym w.if-not-are_whole.ensures)
   | then-not-are_whole-via-else-not-are_whole+then-some_above w ↦ clash (sym w.if-some_above.ensures) p.values
-  | then-not-are_whole-via-else-not-are_whole+else-some_above+then-some_output_outside w ↦ clash (sym w.if-some_output_outside.ensures) p.wired
+  | then-not-are_whole-via-else-not-are_whole+else-some_above+then-output_outside w ↦ clash (sym (rw (w.of.ensures.0, w.of.ensures.1) at w.if-output_outside.ensures)) p.wired
 ]
 
 pub returns : goal.returns
@@ -35,6 +35,6 @@ returns c =
       store_room = room.store_room;
       answers_room = room.answers_room;
       values = sym c.if-some_above.ensures;
-      wired = sym c.if-some_output_outside.ensures;
+      wired = sym (rw (c.of.ensures.0, c.of.ensures.1) at c.if-output_outside.ensures);
     })
     (λ e p. true≢false (ap is_ok (has_room c.args.nodes.now c.args.outputs.now c.args.store c.args.answers p.store_room p.answers_room) ∙ sym told ∙ e))

@@ -1,21 +1,45 @@
-use mathlib.Core.Bool.{false, false≢true}
-use Rattle.laws.proofs.Tests.{clash}
+use mathlib.Core.Path.{refl}
+use mathlib.Core.Bool.{true, false, false≢true}
+use lib.ListN.{length}
+use Rattle.runs.specs.Steps.{Walked}
+use Rattle.runs.proofs.Passing.{told, denied}
 use Rattle.runs.proofs.Running.{store_tells, walked_tells}
-use Rattle.runs.proofs.run.run_store.Goals.{then-not-marked_inputs-via-then-not-marked_inputs, then-not-marked_inputs-via-else-not-marked_inputs+then-not-run_stretches}
+use Rattle.runs.proofs.run.run_store.Goals.{then-counts_guessed+in_ok-run_stretches, else-counts_guessed+in_ok-run_stretches-2}
 use Rattle.runs.proofs.run.run_store.Goals as goal
 
+pub returns-in_err-marked_inputs : goal.returns-in_err-marked_inputs
+returns-in_err-marked_inputs c = rw c.from_residual.ensures (λ g. false≢true (c.in_err-marked_inputs.ensures.1 g.0).0, λ e. absurd (false≢true e))
+
 pub run_stretches-requires : goal.run_stretches-requires
-run_stretches-requires c = (c.marked_inputs.ensures.0 c.if-not-marked_inputs.false).1
+run_stretches-requires c = (c.in_ok-marked_inputs.ensures.0 refl).1
 
-pub returns-then-not-marked_inputs : goal.returns-then-not-marked_inputs
-returns-then-not-marked_inputs c = elim c.then-not-marked_inputs.branch [
-  | then-not-marked_inputs-via-then-not-marked_inputs w ↦ (λ g. clash (c.marked_inputs.ensures.1 g.0).0 w.if-not-marked_inputs.true, λ e. absurd (false≢true e))
-  | then-not-marked_inputs-via-else-not-marked_inputs+then-not-run_stretches w ↦
-      let i = c.marked_inputs.ensures.0 w.if-not-marked_inputs.false in
-      ((store_tells c.args.nodes.now c.args.count c.args.assignment.now c.args.order.now _ _ c.requires.0 c.requires.3 i.0 false (λ b. (c.marked_inputs.ensures.1 b).1) (w.run_stretches.ensures.stopped w.if-not-run_stretches.true)).0, λ e. absurd (false≢true e))
-]
+pub returns-in_err-run_stretches : goal.returns-in_err-run_stretches
+returns-in_err-run_stretches c =
+    let i = c.in_ok-marked_inputs.ensures in
+    rw c.from_residual-in_err-run_stretches.ensures (store_tells c.args.nodes.words.now c.args.nodes.count c.args.assignment.now c.args.order.now _ _ c.args.nodes.whole c.requires.2 (i.0 refl).0 false (λ b. (i.1 b).1) (c.in_err-run_stretches.ensures.stopped refl))
 
-pub returns : goal.returns
-returns c =
-    let i = c.marked_inputs.ensures.0 c.if-not-marked_inputs.false in
-    walked_tells c.args.nodes.now c.args.count c.args.assignment.now c.args.order.now _ _ c.requires.0 c.requires.3 i.0 c.none_waits.result (λ b. (c.marked_inputs.ensures.1 b).1) (c.run_stretches.ensures.walked c.if-not-run_stretches.false) c.none_waits.ensures
+pub run_stretches-requires-else-counts_guessed : goal.run_stretches-requires-else-counts_guessed
+run_stretches-requires-else-counts_guessed c = (c.in_ok-marked_inputs.ensures.0 refl).1
+
+pub returns-in_err-run_stretches-2 : goal.returns-in_err-run_stretches-2
+returns-in_err-run_stretches-2 c =
+    let i = c.in_ok-marked_inputs.ensures in
+    rw c.from_residual-in_err-run_stretches-2.ensures (store_tells c.args.nodes.words.now c.args.nodes.count c.args.assignment.now c.args.order.now _ _ c.args.nodes.whole c.requires.2 (i.0 refl).0 false (λ b. (i.1 b).1) (c.in_err-run_stretches-2.ensures.stopped refl))
+
+pub returns-then-none_waits : goal.returns-then-none_waits
+returns-then-none_waits c =
+    let i = c.in_ok-marked_inputs.ensures in
+    let w : Walked c.args.nodes.words.now c.args.nodes.count c.args.order.now 0 (length c.args.order.now) c.marked_inputs.new.values c.if-counts_guessed.values = elim c.if-counts_guessed.branch [
+      | then-counts_guessed+in_ok-run_stretches w ↦ rw w.values-is (w.in_ok-run_stretches.ensures.walked refl)
+      | else-counts_guessed+in_ok-run_stretches-2 w ↦ rw w.values-is (w.in_ok-run_stretches-2.ensures.walked refl)
+    ] in
+    walked_tells c.args.nodes.words.now c.args.nodes.count c.args.assignment.now c.args.order.now _ _ c.args.nodes.whole c.requires.2 (i.0 refl).0 true (λ b. (i.1 b).1) w (told c.none_waits.result c.none_waits.ensures c.if-none_waits.true)
+
+pub returns-else-none_waits : goal.returns-else-none_waits
+returns-else-none_waits c =
+    let i = c.in_ok-marked_inputs.ensures in
+    let w : Walked c.args.nodes.words.now c.args.nodes.count c.args.order.now 0 (length c.args.order.now) c.marked_inputs.new.values c.if-counts_guessed.values = elim c.if-counts_guessed.branch [
+      | then-counts_guessed+in_ok-run_stretches w ↦ rw w.values-is (w.in_ok-run_stretches.ensures.walked refl)
+      | else-counts_guessed+in_ok-run_stretches-2 w ↦ rw w.values-is (w.in_ok-run_stretches-2.ensures.walked refl)
+    ] in
+    walked_tells c.args.nodes.words.now c.args.nodes.count c.args.assignment.now c.args.order.now _ _ c.args.nodes.whole c.requires.2 (i.0 refl).0 false (λ b. (i.1 b).1) w (denied c.none_waits.result c.none_waits.ensures c.if-none_waits.false)

@@ -4,7 +4,11 @@ use Rattle.schedule.proofs.Call.{call_cells, call_circle}
 use Rattle.schedule.proofs.ordering.order_or_circle.Goals as goal
 
 pub returns-then-taken-count_cells : goal.returns-then-taken-count_cells
-returns-then-taken-count_cells c = call_circle _ _ _ _ _ _ _ c.fresh_order-taken.ensures c.count_cells.ensures _ _ (length c.args.ready.now) (length c.args.successors.now) (length c.args.order.now) (search rules) (search rules) (search rules) c.if-taken-count_cells.true _ (search rules)
+returns-then-taken-count_cells c =
+    let all = c.of.ensures in
+    call_circle _ _ _ _ _ _ _ (rw (all.0, all.1) at c.fresh_order-taken.ensures) (rw (all.0, all.1) at c.count_cells.ensures) _ _ (length c.args.ready.now) (length c.args.successors.now) (length c.args.order.now) (search rules) (search rules) (search rules) c.if-taken-count_cells.true _ (search rules)
 
 pub returns : goal.returns
-returns c = call_cells _ _ _ _ _ _ _ c.fresh_order-taken.ensures c.count_cells.ensures _ _ (length c.args.ready.now) (length c.args.successors.now) (length c.args.order.now) (search rules) (search rules) (search rules) c.if-taken-count_cells.false
+returns c =
+    let all = c.of.ensures in
+    call_cells _ _ _ _ _ _ _ (rw (all.0, all.1) at c.fresh_order-taken.ensures) (rw (all.0, all.1) at c.count_cells.ensures) _ _ (length c.args.ready.now) (length c.args.successors.now) (length c.args.order.now) (search rules) (search rules) (search rules) c.if-taken-count_cells.false

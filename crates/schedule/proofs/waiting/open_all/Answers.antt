@@ -5,10 +5,10 @@ use Rattle.schedule.proofs.Chains.{opening_start, opening_more, opening_end}
 use Rattle.schedule.proofs.waiting.open_all.Goals as goal
 
 pub loop-node-init : goal.loop-node-init
-loop-node-init c = (opening_start _ _ _ c.requires.5, counted_none _ _ c.requires.5 _ refl refl)
+loop-node-init c = (opening_start _ _ _ c.requires.3, counted_none _ _ c.requires.3 _ refl refl)
 
 pub open-cells-requires : goal.open-cells-requires
-open-cells-requires c = (c.requires.0, c.requires.1, record { room = omega (arith, c.loop-node.invariant.0.size, c.requires.2); below = c.loop-node-test.true; levels = c.loop-node.invariant.0.levels; fresh = c.loop-node.invariant.0.later _ (omega arith) c.loop-node-test.true; counted = c.loop-node.invariant.1 })
+open-cells-requires c = record { room = omega (arith, c.loop-node.invariant.0.size, c.requires.0); below = c.loop-node-test.true; levels = c.loop-node.invariant.0.levels; fresh = c.loop-node.invariant.0.later _ (omega arith) c.loop-node-test.true; counted = c.loop-node.invariant.1 }
 
 pub loop-node-preserved : goal.loop-node-preserved
 loop-node-preserved c = (opening_more _ _ _ _ _ _ c.loop-node.invariant.0 c.loop-node-test.true c.open-cells.ensures.0, c.open-cells.ensures.1)
@@ -17,4 +17,4 @@ pub shape_of-area : goal.shape_of-area
 shape_of-area c = c.loop-node.invariant.0.size
 
 pub returns : goal.returns
-returns c = (opening_end _ _ c.requires.1 _ _ _ _ c.loop-node.invariant.0 (omega arith) c.requires.2 c.requires.3 c.requires.4, c.loop-node.invariant.1)
+returns c = (opening_end _ _ c.args.netlist.wired _ _ _ _ c.loop-node.invariant.0 (omega arith) c.requires.0 c.requires.1 c.requires.2, c.loop-node.invariant.1)

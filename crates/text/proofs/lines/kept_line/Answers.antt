@@ -1,4 +1,3 @@
-use Prim.Native.Nat.{◌-◌}
 use mathlib.Core.Path.{ap, ◌∙◌}
 use native.Mathlib.Omega.{arith}
 use Rattle.text.specs.Words.{bytes_of}
@@ -8,5 +7,6 @@ use Rattle.text.proofs.lines.kept_line.Goals as goal
 
 pub returns : goal.returns
 returns c =
-    let e = ap (bytes_of c.args.text.now) c.trim.ensures.0 ∙ trimmed_bytes c.args.text.now (record { start = c.args.from; len = c.find_far_byte-cut.result - c.args.from }) in
-    (kept_made c.args.text.now c.args.from c.args.end c.find_far_byte-cut.result c.trim.result c.requires.0 c.requires.1 c.find_far_byte-cut.ensures.0 c.find_far_byte-cut.ensures.1 e, omega arith)
+    let made = c.trim.ensures.0 in
+    let e = ap (bytes_of c.args.text.now) made ∙ trimmed_bytes c.args.text.now c.between.result in
+    (kept_made c.args.text.now c.args.line c.skip_to_far-cut.result c.trim.result c.skip_to_far-cut.ensures.0 c.skip_to_far-cut.ensures.1 (rw c.between.ensures at e), omega (arith, c.trim.ensures.2, ap (λ w. w.start) c.between.ensures, ap (λ w. w.len) c.between.ensures))

@@ -1,16 +1,9 @@
 use mathlib.Core.Path.{◌∙◌}
-use native.Mathlib.Omega.{arith}
-use Rattle.text.proofs.NumberLaws.{number-none, number_plus, number-plain}
+use Rattle.text.proofs.NumberLaws.{number_plus, number_plain}
 use Rattle.text.proofs.numbers.parse_usize.Goals as goal
 
-pub returns-then-word-eq0 : goal.returns-then-word-eq0
-returns-then-word-eq0 c =
-    number-none c.args.text.now c.args.word.start c.args.word.len c.if-word-eq0.true
+pub returns-in-Some : goal.returns-in-Some
+returns-in-Some c = rw (← c.in-Some.ensures.cases.1) c.parse_digits.ensures ∙ number_plus c.args.bytes.now c.in-Some.ensures.cases.0
 
-pub returns-then-text-word-eq43 : goal.returns-then-text-word-eq43
-returns-then-text-word-eq43 c =
-    c.parse_digits.ensures ∙ number_plus c.args.text.now c.args.word.start c.args.word.len c.if-word-eq0.false (omega arith) c.if-text-word-eq43.true
-
-pub returns : goal.returns
-returns c =
-    c.parse_digits-2.ensures ∙ number-plain c.args.text.now c.args.word.start c.args.word.len c.if-word-eq0.false (omega arith) c.if-text-word-eq43.false
+pub returns-in-None : goal.returns-in-None
+returns-in-None c = c.parse_digits-in-None.ensures ∙ number_plain c.args.bytes.now c.in-None.ensures.cases

@@ -1,45 +1,65 @@
-use mathlib.Core.Path.{◌≡◌, refl, ◌∙◌, subst}
-use Prim.Native.Nat.{ℕ, ◌+◌, ◌<◌}
+use mathlib.Core.Path.{◌≡◌, refl, subst}
+use Prim.Native.Nat.{ℕ, ◌+◌, ◌<◌, ◌≤◌}
 use native.Mathlib.Omega.{arith}
+use mathlib.Core.List.{List}
 use lib.ListN.{length, get_or}
 use Rattle.runs.specs.Steps.{Walked}
-use Rattle.runs.proofs.Passing.{told, denied}
-use Rattle.runs.proofs.Through.{steppable_one, through_past, through_denied}
+use Rattle.runs.proofs.Parts.{part, part_length, part_at}
+use Rattle.runs.proofs.Through.{through_past, through_denied}
 use Rattle.runs.proofs.Walked.{walked_none, walked_then, walked_off, walked_step, went_on, went_off}
 use Rattle.runs.proofs.step.Walk.run_list.Goals as goal
 
-pub loop-i-init : goal.loop-i-init
-loop-i-init c = (walked_none c.args.self.now.nodes.now c.args.self.now.count c.args.self.now.order.now c.args.from c.args.values.now c.requires.0, omega arith, c.requires.1, refl)
+-- the entry of a turn is one of the list's, before the end
+here : (order : List ℕ) (from end k : ℕ) → end ≤ length order → k < length (part order from end) → (from + k < end) × (from + k < length order) × (get_or (part order from end) k 0 ≡ get_or order (from + k) 0)
+here order from end k h l =
+    let i : from + k < end = omega (arith, l, part_length order from end h) in
+    (i, omega (arith, i, h), part_at order from end k i)
 
-pub returns-then-self-x : goal.returns-then-self-x
-returns-then-self-x c =
-    let h : c.loop-i.i < length c.args.self.now.order.now = omega (arith, c.loop-i-test.true, c.requires.2) in
-    went_off c.args.self.now.nodes.now c.args.self.now.count c.args.self.now.order.now c.args.from c.args.end c.args.values.now c.loop-i.values
-    (walked_off c.args.self.now.nodes.now c.args.self.now.count c.args.self.now.order.now c.args.from c.loop-i.i c.args.end c.args.values.now c.loop-i.values c.loop-i.values c.loop-i.invariant.1 c.loop-i.invariant.2 c.loop-i.invariant.0 (through_past c.args.self.now.nodes.now c.args.self.now.count c.args.self.now.order.now c.loop-i.i h c.loop-i.values c.args.end c.loop-i.values c.if-self-x.true))
+pub loop-x-init : goal.loop-x-init
+loop-x-init g c =
+    let z : c.args.from ≡ c.args.from + 0 = omega arith in
+    let n = c.args.self.now.nodes in
+    subst (λ (m : ℕ). Walked n.words.now n.count c.args.self.now.order.now c.args.from m c.args.values.now c.args.values.now) z (walked_none n.words.now n.count c.args.self.now.order.now c.args.from c.args.values.now c.requires.0)
+
+pub returns-then-walk-x : goal.returns-then-walk-x
+returns-then-walk-x g c =
+    let n = c.args.self.now.nodes in
+    let order = c.args.self.now.order.now in
+    let i = c.args.from + c.loop-x.x-index in
+    let t = here order c.args.from c.args.end c.loop-x.x-index c.requires.2 c.loop-x-test.true in
+    let p = rw t.2 at c.if-walk-x.true in
+    went_off n.words.now n.count order c.args.from c.args.end c.args.values.now c.loop-x.values
+    (walked_off n.words.now n.count order c.args.from i c.args.end c.args.values.now c.loop-x.values c.loop-x.values (omega arith) (omega (arith, t.0)) c.loop-x.invariant (through_past n.words.now n.count order i t.1 c.loop-x.values c.args.end c.loop-x.values p))
 
 pub step-requires : goal.step-requires
-step-requires c = (steppable_one c.args.self.now.nodes.now c.args.self.now.count c.loop-i.values c.loop-i.invariant.0.steppable (get_or c.args.self.now.order.now c.loop-i.i 0) c.if-self-x.false)
+step-requires g c = let p = c.loop-x.invariant.steppable in (c.if-walk-x.false, omega (arith, c.if-walk-x.false, p.stored), p.graded)
 
-pub returns-then-not-step : goal.returns-then-not-step
-returns-then-not-step c =
-    let h : c.loop-i.i < length c.args.self.now.order.now = omega (arith, c.loop-i-test.true, c.requires.2) in
-    let d = denied c.step.result c.step.ensures.0 c.if-not-step.true in
-    went_off c.args.self.now.nodes.now c.args.self.now.count c.args.self.now.order.now c.args.from c.args.end c.args.values.now _
-    (walked_off c.args.self.now.nodes.now c.args.self.now.count c.args.self.now.order.now c.args.from c.loop-i.i c.args.end c.args.values.now c.loop-i.values _ c.loop-i.invariant.1 c.loop-i.invariant.2 c.loop-i.invariant.0 (through_denied c.args.self.now.nodes.now c.args.self.now.count c.args.self.now.order.now c.loop-i.i h c.loop-i.values c.args.end _ (λ t. d t.ready)))
+pub returns-in_err-step : goal.returns-in_err-step
+returns-in_err-step g c =
+    let n = c.args.self.now.nodes in
+    let order = c.args.self.now.order.now in
+    let i = c.args.from + c.loop-x.x-index in
+    let t = here order c.args.from c.args.end c.loop-x.x-index c.requires.2 c.loop-x-test.true in
+    let d = rw t.2 at c.in_err-step.ensures.0 in
+    rw c.from_residual.ensures (went_off n.words.now n.count order c.args.from c.args.end c.args.values.now _
+    (walked_off n.words.now n.count order c.args.from i c.args.end c.args.values.now c.loop-x.values _ (omega arith) (omega (arith, t.0)) c.loop-x.invariant (through_denied n.words.now n.count order i t.1 c.loop-x.values c.args.end _ (λ u. d u.ready))))
 
-pub loop-i-preserved : goal.loop-i-preserved
-loop-i-preserved c =
-    let h : c.loop-i.i < length c.args.self.now.order.now = omega (arith, c.loop-i-test.true, c.requires.2) in
-    let t = told c.step.result c.step.ensures.0 c.if-not-step.false in
-    let e = c.step.ensures.1 c.if-not-step.false in (
-      walked_then c.args.self.now.nodes.now c.args.self.now.count c.args.self.now.order.now c.args.from c.loop-i.i (c.loop-i.i + 1) c.args.values.now c.loop-i.values _ c.loop-i.invariant.1 (omega arith) c.loop-i.invariant.0 (walked_step c.args.self.now.nodes.now c.args.self.now.count c.args.self.now.order.now c.loop-i.i h c.loop-i.values _ c.loop-i.invariant.0.steppable c.if-self-x.false t e),
-      omega (arith, c.loop-i.invariant.1),
-      omega (arith, c.loop-i-test.true),
-      c.step.auto.values ∙ c.loop-i.invariant.3,
-    )
+pub loop-x-preserved : goal.loop-x-preserved
+loop-x-preserved g c =
+    let n = c.args.self.now.nodes in
+    let order = c.args.self.now.order.now in
+    let i = c.args.from + c.loop-x.x-index in
+    let t = here order c.args.from c.args.end c.loop-x.x-index c.requires.2 c.loop-x-test.true in
+    let r = rw t.2 at c.in_ok-step.ensures in
+    let d = rw t.2 at c.if-walk-x.false in
+    let z : i + 1 ≡ c.args.from + (c.loop-x.x-index + 1) = omega arith in
+    subst (λ (m : ℕ). Walked n.words.now n.count order c.args.from m c.args.values.now c.step.new.values) z
+    (walked_then n.words.now n.count order c.args.from i (i + 1) c.args.values.now c.loop-x.values _ (omega arith) (omega arith) c.loop-x.invariant (walked_step n.words.now n.count order i t.1 c.loop-x.values _ c.loop-x.invariant.steppable d r.0 (r.1 refl)))
 
 pub returns : goal.returns
-returns c =
-    let z : c.loop-i.i ≡ c.args.end = omega (arith, c.loop-i-test.false, c.loop-i.invariant.2) in
-    went_on c.args.self.now.nodes.now c.args.self.now.count c.args.self.now.order.now c.args.from c.args.end c.args.values.now c.loop-i.values
-    (subst (λ (n : ℕ). Walked c.args.self.now.nodes.now c.args.self.now.count c.args.self.now.order.now c.args.from n c.args.values.now c.loop-i.values) z c.loop-i.invariant.0)
+returns g c =
+    let n = c.args.self.now.nodes in
+    let order = c.args.self.now.order.now in
+    let z : c.args.from + c.loop-x.x-index ≡ c.args.end = omega (arith, c.loop-x-test.false, c.loop-x.auto.x-index-end, c.requires.1, part_length order c.args.from c.args.end c.requires.2) in
+    went_on n.words.now n.count order c.args.from c.args.end c.args.values.now c.loop-x.values
+    (subst (λ (m : ℕ). Walked n.words.now n.count order c.args.from m c.args.values.now c.loop-x.values) z c.loop-x.invariant)

@@ -1,11 +1,10 @@
-use mathlib.Core.Path.{◌≡◌}
 use Prim.Native.Nat.{◌-◌, ◌≤◌}
 use lib.ListN.{length}
 use Rattle.runs.specs.Steps.{Walked}
 use Rattle.runs.proofs.step.Walk.run_stretches.Given as goal
 
 abbrev pub invariant-loop-from : goal.invariant-loop-from
-invariant-loop-from l = Walked l.self.nodes.now l.self.count l.self.order.now l.initial.from l.from l.initial.values l.values × (l.initial.from ≤ l.from) × (l.from ≤ length l.self.order.now) × (length l.values ≡ length l.initial.values) × (l.lead ≤ l.self.count)
+invariant-loop-from g l = Walked l.self.nodes.words.now l.self.nodes.count l.self.order.now 0 l.from l.initial.values l.values × (l.from ≤ length l.self.order.now) × (l.lead ≤ l.self.nodes.count)
 
 abbrev pub decreases-loop-from : goal.decreases-loop-from
-decreases-loop-from l = length l.self.order.now - l.from
+decreases-loop-from g l = length l.self.order.now - l.from

@@ -1,0 +1,5 @@
+use Rattle.runs.proofs.Evaluating.{entry_broken}
+use Rattle.runs.proofs.lookup.EntryLookup.missing.Goals as goal
+
+pub returns : goal.returns
+returns c = entry_broken

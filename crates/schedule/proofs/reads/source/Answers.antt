@@ -1,9 +1,0 @@
-use native.Mathlib.Omega.{arith}
-use Rattle.schedule.proofs.Edges.{source_const, source_there}
-use Rattle.schedule.proofs.reads.source.Goals as goal
-
-pub returns-in_err-node : goal.returns-in_err-node
-returns-in_err-node c = rw c.from_residual.ensures (source_const _ _ _ c.wire_at.ensures (omega (arith, c.in_err-node.ensures)))
-
-pub returns : goal.returns
-returns c = rw c.then_some.ensures (source_there _ _ _ c.wire_at.ensures c.in_ok-node.node (omega (arith, c.in_ok-node.ensures)))
