@@ -30,26 +30,24 @@ pub struct Asked<'a> {
     pub assignment: &'a [u8],
 }
 
-// The run along the first entries of an order, then `evaluate`.
+// The run along an order, then `evaluate`.
 pub fn run_and_evaluate(
     nodes: &[usize],
     outputs: &[usize],
     order: &[usize],
-    cells: usize,
     assignment: &[u8],
     values: &mut [u8],
     answers: &mut [u8],
     evaluated: &mut [u8],
 ) -> Both
-    requires { cells ≤ length order.now }
-    ensures { RanThenEvaluated nodes.now outputs.now (take cells order.now) assignment.now values.old answers.old evaluated.old result values.new answers.new evaluated.new }
+    ensures { RanThenEvaluated nodes.now outputs.now order.now assignment.now values.old answers.old evaluated.old result values.new answers.new evaluated.new }
 {
-    let ran = run(nodes, outputs, &order[..cells], assignment, values, answers);
+    let ran = run(nodes, outputs, order, assignment, values, answers);
     let evaluated = evaluate(nodes, outputs, assignment, values, evaluated);
     Both { ran, evaluated }
 }
 
-// The same, where the entries are no more than the area's; else nothing is run.
+// The same for the first entries of an order, where they are no more than the area's; else nothing is run.
 pub fn run_ordered(
     nodes: &[usize],
     outputs: &[usize],
@@ -68,7 +66,13 @@ pub fn run_ordered(
         return refuse_run(Refusal::UnfitOrder, values, answers, evaluated);
     }
     run_and_evaluate(
-        nodes, outputs, order, cells, assignment, values, answers, evaluated,
+        nodes,
+        outputs,
+        &order[..cells],
+        assignment,
+        values,
+        answers,
+        evaluated,
     )
 }
 

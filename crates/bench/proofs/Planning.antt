@@ -11,20 +11,21 @@ use borrow.Author.Tests.{lt-ltb}
 use Rattle.circuit.specs.declared.refusals.Refusal.{Refusal}
 use Rattle.circuit.specs.declared.refusals.Refusal.TheVariants.{DefinedBefore, WrongCount, Malformed}
 use Rattle.circuit.specs.Refusals.{Try, and_then}
+use Rattle.circuit.proofs.Tries.{no_yes}
 use Rattle.text.specs.Words.{bytes_of}
 use Rattle.text.specs.declared.words.Word.{Word}
 use Rattle.names.specs.Names.{Entry}
 use Rattle.reading.specs.Reading.{Places, Held, find, unless_defined}
 use Rattle.reading.specs.Holding.{outcome}
 use Rattle.bench_invocations.specs.declared.invocation.Invocation.{Invocation}
-use Rattle.bench_invocations.specs.Invocations.{Invoked, parse_invocation}
-use Rattle.bench_invocations.specs.Walks.{arguments_left, invoked, NotedIn}
+use Rattle.bench_invocations.specs.Invocations.{Invoked, arguments_of, parse_invocation}
+use Rattle.bench_invocations.specs.Walks.{invoked, NotedIn}
 use Rattle.bench_gates.specs.declared.operations.Operation.{Operation}
 use Rattle.bench_gates.specs.declared.plans.Plan.{Plan}
 use Rattle.bench_gates.specs.Operations.{operation_of}
 use Rattle.bench_gates.specs.Gates.{input_wires, lower_gate}
 use Rattle.bench_gates.specs.Walks.{first_three}
-use Rattle.bench_gates.proofs.Drivers.{driven, no_yes}
+use Rattle.bench_gates.proofs.Drivers.{driven}
 use Rattle.bench.specs.declared.declarations.Declaration.{Declaration}
 use Rattle.bench.specs.Bench.{Gate, gate_invoked, gate_of, gate_line, Declared, declaration_of, declared_in}
 use Rattle.bench.specs.Plans.{planned, PlanIs, NamedIs}
@@ -39,21 +40,21 @@ plan_refused t es out e g q = record { is = q; fits = tt }
 
 module _ (t : List ℕ) (es : List Entry) (i : Invocation) where
   -- a gate's inputs, one of them without a driver
-  pub inputs_refused : (e : Refusal) → Err e ≡ outcome first_three (input_wires t es (arguments_left i.arguments)) → Err e ≡ gate_invoked t es (invoked i)
+  pub inputs_refused : (e : Refusal) → Err e ≡ outcome first_three (input_wires t es (arguments_of t i.inside)) → Err e ≡ gate_invoked t es (invoked t i)
   unfolding gate_invoked
-  inputs_refused e q = go (input_wires t es (arguments_left i.arguments)) q
+  inputs_refused e q = go (input_wires t es (arguments_of t i.inside)) q
     where
       go : (r : Try (List ℕ)) → Err e ≡ outcome first_three r → Err e ≡ and_then r (λ xs. Ok (gate (operation_of (bytes_of t i.operation)) xs))
       go (Err g) h = let z : e ≡ g = cc in rw z
       go (Ok xs) h = absurd (no_yes h)
 
   pub plan_made : NotedIn t i → (out : Word) → out.start + out.len ≤ length t → (o : Operation) → o ≡ operation_of (bytes_of t i.operation)
-      → (w : List ℕ) → Ok w ≡ outcome first_three (input_wires t es (arguments_left i.arguments))
-      → PlanIs t es out (Ok (record { out = out; operation = o; arguments = i.arguments; inputs = i.count; wires = w })) (gate_invoked t es (invoked i))
+      → (w : List ℕ) → Ok w ≡ outcome first_three (input_wires t es (arguments_of t i.inside))
+      → PlanIs t es out (Ok (record { out = out; operation = o; inside = i.inside; inputs = i.count; wires = w })) (gate_invoked t es (invoked t i))
   unfolding gate_invoked
   plan_made v out h o eo w q = record {
     is = rw eo;
-    fits = record { out_is = refl; inside = h; driven = driven t es _ v.same_text q v.count_is };
+    fits = record { out_is = refl; inside = h; driven = driven t es _ v.inside_in q v.count_is };
   }
 
 module _ (t : List ℕ) (out expression : Word) (es : List Entry) where
@@ -84,9 +85,9 @@ module _ (t : List ℕ) (out expression : Word) (es : List Entry) where
 
 module _ (t : List ℕ) (p : Places) (out expression : Word) (h : Held) where
   pub gate_on : (r : Plan) → planned t h.names r ≡ gate_of t out expression h.names → out ≡ r.out
-      → and_then (input_wires t h.names (arguments_left r.arguments)) (λ xs. lower_gate p r.out r.operation xs h) ≡ gate_line t p out expression h
+      → and_then (input_wires t h.names (arguments_of t r.inside)) (λ xs. lower_gate p r.out r.operation xs h) ≡ gate_line t p out expression h
   unfolding gate_line
-  gate_on r q o = rw (← q, o) (go (input_wires t h.names (arguments_left r.arguments)))
+  gate_on r q o = rw (← q, o) (go (input_wires t h.names (arguments_of t r.inside)))
     where
       go : (x : Try (List ℕ)) → and_then x (λ xs. lower_gate p r.out r.operation xs h)
           ≡ and_then (and_then x (λ xs. Ok (gate r.operation xs))) (λ g. lower_gate p r.out g.operation g.inputs h)
@@ -107,16 +108,16 @@ module _ (t : List ℕ) (l : Word) where
   name_malformed e q = rw (← q)
 
   -- what an invocation declares, by the first of its arguments and those after it
-  module _ (i : Invocation) (s : Ok (invoked i) ≡ parse_invocation t l) where
-    pub no_name : arguments_left i.arguments ≡ [] → Err WrongCount ≡ declared_in t l
+  module _ (i : Invocation) (s : Ok (invoked t i) ≡ parse_invocation t l) (ws : List Word) (g : ws ≡ arguments_of t i.inside) where
+    pub no_name : ws ≡ [] → Err WrongCount ≡ declared_in t l
     unfolding declared_in
-    no_name e = rw (← s, e)
+    no_name e = rw (← s, ← g, e)
 
-    module _ (w : Word) (rest : List Word) (e : arguments_left i.arguments ≡ w ∷ rest) where
+    module _ (w : Word) (rest : List Word) (e : ws ≡ w ∷ rest) where
       pub more_names : (x : Word) (xs : List Word) → rest ≡ x ∷ xs → Err WrongCount ≡ declared_in t l
       unfolding declared_in
-      more_names x xs f = rw (← s, e, f)
+      more_names x xs f = rw (← s, ← g, e, f)
 
       pub one_name : rest ≡ [] → (d : Declaration) → d ≡ declaration_of (bytes_of t i.operation) → Ok (declared d w) ≡ declared_in t l
       unfolding declared_in
-      one_name f d ed = rw (← s, e, f, ed)
+      one_name f d ed = rw (← s, ← g, e, f, ed)

@@ -7,6 +7,7 @@ ghost use Rattle.bench.specs.Plans.{NamedIs, ReadKept, RefusedKept};
 
 use crate::read::Bench;
 use bench_invocations::invocation::parse_bench_invocation;
+use bench_invocations::iterators::arguments_of;
 use circuit::refusals::Refusal;
 use reading::outputs::add_output;
 use reading::records::{Reading, add_input};
@@ -41,13 +42,13 @@ pub struct Named {
 }
 
 // 9, 6.
-#[tactic(auto, using(crate::proofs::Planning::name_refused, crate::proofs::Planning::name_malformed, crate::proofs::Planning::no_name, crate::proofs::Planning::more_names, crate::proofs::Planning::one_name))]
+#[tactic(auto, using(crate::proofs::Planning::name_refused, crate::proofs::Planning::no_name))]
 pub fn declared_name(text: &[u8], line: Word) -> Result<Named, Refusal>
     requires { line.start + line.len ≤ length text.now }
     ensures { NamedIs text.now result (declared_in text.now line) }
 {
     let invocation = parse_bench_invocation(text, line)?;
-    let mut names = invocation.arguments;
+    let mut names = arguments_of(text, invocation.inside);
     let (Some(name), None) = (names.next(), names.next()) else {
         return Err(Refusal::WrongCount);
     };

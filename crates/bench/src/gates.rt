@@ -20,47 +20,36 @@ use text::words::{Word, trim};
 
 // A gate with a new output and its invocation: 5.
 #[tactic(auto, using(crate::proofs::Planning::plan_refused, crate::proofs::Planning::inputs_refused, crate::proofs::Planning::plan_made))]
-pub fn plan_inputs<'a>(
-    table: &NameTable,
-    out: Word,
-    invocation: Invocation<'a>,
-) -> Result<Plan<'a>, Refusal>
+pub fn plan_inputs(table: &NameTable, out: Word, invocation: Invocation) -> Result<Plan, Refusal>
     requires out_in_bounds { out.start + out.len ≤ length table.now.text.now }
     requires noted { NotedIn table.now.text.now invocation }
-    ensures { PlanIs table.now.text.now (entries table.now.names.now table.now.count) out result (gate_invoked table.now.text.now (entries table.now.names.now table.now.count) (invoked invocation.entry)) }
+    ensures { PlanIs table.now.text.now (entries table.now.names.now table.now.count) out result (gate_invoked table.now.text.now (entries table.now.names.now table.now.count) (invoked table.now.text.now invocation)) }
 {
-    let wires = input_wires(table, invocation.arguments)?;
+    let wires = input_wires(table, invocation.inside)?;
     Ok(Plan {
         out,
         operation: operation_of(invocation.operation.bytes(table.text)),
-        arguments: invocation.arguments,
+        inside: invocation.inside,
         inputs: invocation.count,
         wires,
     })
 }
 
 // What stands before the first `=` of a line, and what stands after it: 9, 4, 9, 5.
-// The text goes beside the table: the plan keeps it when the table's areas are written again.
 #[tactic(auto, using(crate::proofs::Planning::plan_refused, crate::proofs::Planning::no_output, crate::proofs::Planning::known_output, crate::proofs::Planning::new_output))]
-pub fn plan_gate<'a>(
-    text: &'a [u8],
-    table: &NameTable,
-    before: Word,
-    after: Word,
-) -> Result<Plan<'a>, Refusal>
-    requires same_text { text.now ≡ table.now.text.now }
-    requires before_in_bounds { before.start + before.len ≤ length text.now }
-    requires after_in_bounds { after.start + after.len ≤ length text.now }
-    ensures { PlanIs text.now (entries table.now.names.now table.now.count) (trimmed text.now before) result (gate_of text.now (trimmed text.now before) after (entries table.now.names.now table.now.count)) }
+pub fn plan_gate(table: &NameTable, before: Word, after: Word) -> Result<Plan, Refusal>
+    requires before_in_bounds { before.start + before.len ≤ length table.now.text.now }
+    requires after_in_bounds { after.start + after.len ≤ length table.now.text.now }
+    ensures { PlanIs table.now.text.now (entries table.now.names.now table.now.count) (trimmed table.now.text.now before) result (gate_of table.now.text.now (trimmed table.now.text.now before) after (entries table.now.names.now table.now.count)) }
 {
-    let out = trim(text, before);
+    let out = trim(table.text, before);
     if out.len == 0 {
         return Err(Refusal::Malformed);
     }
     if find_wire(table, out).is_some() {
         return Err(Refusal::DefinedBefore);
     }
-    let invocation = parse_bench_invocation(text, after)?;
+    let invocation = parse_bench_invocation(table.text, after)?;
     plan_inputs(table, out, invocation)
 }
 
@@ -88,6 +77,6 @@ pub fn gate_line(
         names,
         count: counts.names,
     };
-    let plan = plan_gate(text, &table, before, after)?;
+    let plan = plan_gate(&table, before, after)?;
     lower_bench_gate(text, plan, counts, heads, nodes, names)
 }

@@ -1,19 +1,16 @@
 // The reader: a text into a circuit, or its refusal.
 ghost use Rattle.std.specs.Prelude.{true, length};
 ghost use Rattle.reading.specs.Areas.{Leaves};
-ghost use Rattle.bench.specs.Bench.{bench_lines, bench};
-ghost use Rattle.bench.specs.Plans.{bench_reads, bench_ends};
+ghost use Rattle.bench.specs.Bench.{bench};
 
-use crate::lines;
 use bench_gates::inputs;
 use circuit::records::Sizes;
 use circuit::refusals::Refusal;
 use names::NameTable;
-use reading::format::{Format, Names, parse};
-use reading::records::Reading;
+use reading::format::{Names, parse};
 use text::words::Word;
 
-// The format ISCAS BENCH.
+// The format ISCAS BENCH; how its lines are read stands in `lines`.
 pub struct Bench;
 
 impl Names for Bench {
@@ -21,24 +18,6 @@ impl Names for Bench {
 
     fn find_wire(table: &NameTable, word: Word) -> Option<usize> {
         inputs::find_wire(table, word)
-    }
-}
-
-impl Format for Bench {
-    ghost lines = { bench_lines };
-
-    ghost reads = { bench_reads };
-
-    ghost ends = { bench_ends };
-
-    fn read_lines(
-        text: &[u8],
-        heads: &mut [usize; 256],
-        nodes: &mut [usize],
-        names: &mut [usize],
-        outputs: &mut [usize],
-    ) -> Result<Reading, Refusal> {
-        lines::read_lines(text, heads, nodes, names, outputs)
     }
 }
 

@@ -1,6 +1,6 @@
 -- A chain as the code makes it, wire by wire, is the chain of the definition.
 -- Assumes nothing.
-use Rattle.std.specs.Prelude.{Err, None, Ok, Some}
+use Rattle.std.specs.Prelude.{Err, None, Ok, Option, Some, IfOk}
 use Prim.Native.Nat.{ℕ, zero, suc, ◌+◌, ◌^◌, ◌≤◌, ◌<◌}
 use mathlib.Core.Path.{◌≡◌, refl, sym, ap, subst, ◌∙◌}
 use mathlib.Core.Bool.{true}
@@ -10,59 +10,35 @@ use native.Mathlib.Omega.{arith}
 use lib.ListN.{length, get_or, drop}
 use Rattle.std.specs.declared.iter.Skip.{Skip}
 use Rattle.std.specs.Iterator.Adapters.{skip_source, skip_count, skip_steps}
-use Rattle.std.proofs.lemmas.Option.{none-some}
 use Rattle.std.proofs.lemmas.Iterator.{YieldsList}
 use Rattle.std.proofs.lemmas.Iterator.Adapters.{YieldsList-from_skip}
-use Rattle.std.proofs.lemmas.List.{get_or-drop, length-drop, drop_more}
-use Rattle.std.proofs.Common.{drop_of_length-le}
+use Rattle.laws.specs.Areas.{capacity}
+use Rattle.laws.specs.Stretches.{All}
+use Rattle.circuit.specs.declared.refusals.Refusal.{Refusal}
 use Rattle.circuit.specs.declared.records.BoolWire.{BoolWire}
 use Rattle.circuit.specs.declared.records.BoolNode.{BoolNode}
 use Rattle.circuit.specs.Refusals.{Try, and_then}
 use Rattle.circuit.specs.Records.{wire_of, wire_word, nodes_of}
-use Rattle.circuit.proofs.Codes.{length_nodes}
+use Rattle.circuit.proofs.Codes.{length_nodes, wire_word_back}
 use Rattle.text.specs.declared.words.Word.{Word}
 use Rattle.names.specs.Names.{Entry}
-use Rattle.reading.specs.Reading.{Places, places_in, Held, find, add_node, add_named}
-use Rattle.reading.specs.Holding.{outcome}
+use Rattle.reading.specs.Reading.{Places, places_in, Held, find, driver, add_node, add_named}
+use Rattle.reading.specs.Holding.{outcome, NodesKept}
 use Rattle.bench_invocations.specs.declared.arguments.Arguments.{Arguments}
+use Rattle.bench_invocations.specs.Invocations.{arguments_of}
 use Rattle.bench_invocations.specs.Walks.{arguments_left, GivesArgument}
-use Rattle.bench_invocations.proofs.Inside.{arguments_given, argument_inside}
+use Rattle.bench_invocations.proofs.Inside.{Inside, arguments_given, arguments_inside}
 use Rattle.bench_gates.specs.declared.plans.Plan.{Plan}
 use Rattle.bench_gates.specs.declared.chains.Chained.{Chained}
 use Rattle.bench_gates.specs.declared.operations.Binary.{Binary}
 use Rattle.bench_gates.specs.Gates.{input_wires, step_cell, last_cell, with_nodes, chain, chained}
-use Rattle.bench_gates.specs.Walks.{Driven, rest_of}
-use Rattle.bench_gates.proofs.Drivers.{inputs-length, driver_at}
+use Rattle.bench_gates.specs.Walks.{Driven, chain_words, rest_of, StepsAre}
+use Rattle.bench_gates.proofs.Drivers.{no_inputs, inputs_each, inputs-length, inputs_drop}
 
--- ---- cells
-
-wire-word : (x : ℕ) → wire_word (wire_of x) ≡ x
-wire-word zero = refl
-wire-word (suc zero) = refl
-wire-word (suc (suc k)) = omega arith
-
--- a wire that the code has as a number fits its word
-pub wire_fits : (w : BoolWire) (x : ℕ) → w ≡ wire_of x → x < 2 ^ 64 → wire_word w < 2 ^ 64
-wire_fits w x e h = rw (e, wire-word x) h
-
--- ---- a step of the chain
-
--- what comes after the count of an area's nodes comes after the nodes
-counted : {B : Type 0} (new : List ℕ) (r : Try ℕ) (f : List BoolNode → Try B) → and_then r (λ n. f (nodes_of new n)) ≡ and_then (outcome (nodes_of new) r) f
-counted new (Ok n) f = refl
-counted new (Err e) f = refl
-
--- the step's node, as the code adds it, then what is left
-pub step_made : (p : Places) (out : Word) (o : Binary) (k x y z : ℕ) (ys : List ℕ) (ns : List ℕ) (n : ℕ) (es : List Entry) (new : List ℕ) (r : Try ℕ)
-    → outcome (nodes_of new) r ≡ add_node p.nodes (step_cell out o k x y) (nodes_of ns n)
-    → and_then r (λ m. chain p out o (k + 1) (n + 2) (z ∷ ys) (with_nodes (nodes_of new m) es)) ≡ chain p out o k x (y ∷ z ∷ ys) (with_nodes (nodes_of ns n) es)
-step_made p out o k x y z ys ns n es new r q =
-    counted new r (λ (ms : List BoolNode). chain p out o (k + 1) (n + 2) (z ∷ ys) (with_nodes ms es))
-    ∙ ap (λ (a : Try (List BoolNode)). and_then a (λ ms. chain p out o (k + 1) (n + 2) (z ∷ ys) (with_nodes ms es))) q
-    ∙ unfolded
-  where
-    unfolded : and_then (add_node p.nodes (step_cell out o k x y) (nodes_of ns n)) (λ ms. chain p out o (k + 1) (n + 2) (z ∷ ys) (with_nodes ms es)) ≡ chain p out o k x (y ∷ z ∷ ys) (with_nodes (nodes_of ns n) es)
-    unfolded = unfold chain in rw (length_nodes ns n, add-one k)
+-- what goes on alike gives the same
+each_then : {A B : Type 0} (r : Try A) (f g : A → Try B) → ((a : A) → f a ≡ g a) → and_then r f ≡ and_then r g
+each_then (Err e) f g h = refl
+each_then (Ok a) f g h = h a
 
 -- the areas of names and outputs say nothing to a node and its name
 pub same_places : (n m l : ℕ) (out : Word) (x y : BoolNode) (h : Held) → x ≡ y → add_named (places_in n m 0) out x h ≡ add_named (places_in n m l) out y h
@@ -70,6 +46,11 @@ unfolding add_named
 same_places n m l out x y h e = rw e
 
 -- ---- the chain of the wires
+
+-- what comes after the count of an area's nodes comes after the nodes
+counted : {B : Type 0} (new : List ℕ) (r : Try ℕ) (f : List BoolNode → Try B) → and_then r (λ n. f (nodes_of new n)) ≡ and_then (outcome (nodes_of new) r) f
+counted new (Ok n) f = refl
+counted new (Err e) f = refl
 
 -- three wires: the step of the first two, n nodes being there, then the last cell
 pub triple_chained : (p : Places) (out : Word) (o : Binary) (x y z : ℕ) (ns : List ℕ) (n : ℕ) (es : List Entry) (new : List ℕ) (r : Try ℕ)
@@ -85,79 +66,135 @@ triple_chained p out o x y z ns n es new r q =
 
 -- ---- the steps of a gate
 
--- the inputs after the third, as an iterator gives them
-pub skipped_given : (s : Skip Arguments) (a : Arguments) → skip_source s ≡ a → skip_count s ≡ 3 → YieldsList (skip_steps GivesArgument) (λ x. x) s (drop 3 (arguments_left a))
-skipped_given s a e n = subst (λ (b : Arguments). YieldsList (skip_steps GivesArgument) (λ x. x) s (drop 3 (arguments_left b))) e (YieldsList-from_skip 3 (arguments_given (skip_source s)) n)
+module _ (t : List ℕ) (es : List Entry) (q : Plan) (o : Binary) (p : Places) where
+  module _ (k : ℕ) (ns : List ℕ) (c : Chained) (w : Word) (ws : List Word) where
+    -- an input without a driver
+    step_stops : (e : Refusal) → Err e ≡ driver (find true t w es) → Err e ≡ rest_of t es q o p k ns c (w ∷ ws)
+    unfolding chain_words
+    step_stops e f = rw (← f)
 
-some_same : {x y : ℕ} → Some x ≡ Some y → x ≡ y
-some_same q = cc
+    -- an input with one, and the step before it
+    step_made : (z : ℕ) → Ok z ≡ driver (find true t w es) → (new : List ℕ) (r : Try Chained)
+        → outcome (λ d. nodes_of new d.nodes) r ≡ add_node p.nodes (step_cell q.out o k c.signal c.next) (nodes_of ns c.nodes)
+        → IfOk r (λ d. (d.signal ≡ c.nodes + 2) × (d.next ≡ z))
+        → and_then r (λ d. rest_of t es q o p (k + 1) new d ws) ≡ rest_of t es q o p k ns c (w ∷ ws)
+    unfolding chain_words
+    step_made z f new (Err e) a b = rw (← f, ← a)
+    step_made z f new (Ok d) a b = rw (← f, ← a, length_nodes ns c.nodes, b.0, b.1, add-one k)
 
--- the wires of all inputs, where each has a driver
-abbrev pub wires_in : Try (List ℕ) → List ℕ
-wires_in (Ok xs) = xs
-wires_in (Err e) = []
+  -- the chain of the wires, where each input has one
+  words_made : (k x y : ℕ) (ws : List Word) (xs : List ℕ) (ns : List BoolNode) → input_wires t es ws ≡ Ok xs → chain_words t p q.out o k x y ws (with_nodes ns es) ≡ chain p q.out o k x (y ∷ xs) (with_nodes ns es)
+  unfolding chain_words chain
+  words_made k x y [] xs ns e = rw (no_inputs t es xs e)
+  words_made k x y (w ∷ ws) xs ns e =
+      let i = inputs_each t es w ws xs e in
+      subst (λ (l : List ℕ). chain_words t p q.out o k x y (w ∷ ws) (with_nodes ns es) ≡ chain p q.out o k x (y ∷ l) (with_nodes ns es)) (sym i.all_are)
+      (rw i.first_is (each_then (add_node p.nodes (step_cell q.out o k x y) ns) _ _ (λ ms. words_made (suc k) (length ns + 2) i.wire ws i.rest ms i.rest_are)))
 
--- the input whose turn it is after n that came after the third
-pub record Turn (t : List ℕ) (es : List Entry) (q : Plan) (n : ℕ) (argument : Word) : Type 0 where
-  pub wire : ℕ
-  pub is : find true t argument es ≡ Some wire
-  pub left : drop (3 + n) (wires_in (input_wires t es (arguments_left q.arguments))) ≡ wire ∷ drop (3 + (n + 1)) (wires_in (input_wires t es (arguments_left q.arguments)))
-  pub inside : argument.start + argument.len ≤ length t
-  pub few : n + 3 < q.inputs
-
-module _ (t : List ℕ) (es : List Entry) (q : Plan) (d : Driven t es q) where
-  abbrev all : List Word
-  all = arguments_left q.arguments
-
-  pub turn : (n : ℕ) (argument : Word) → (n < length (drop 3 all)) × (argument ≡ get_or (drop 3 all) n argument) → Turn t es q n argument
-  turn n argument h =
-      let few : 3 + n < length all = omega (arith, h.0, length-drop 3 all) in
-      let place : argument ≡ get_or all (3 + n) argument = h.1 ∙ get_or-drop 3 all n argument in
-      let found = driver_at t es argument all d.wires (3 + n) d.are few in
-      let size : 3 + n < length d.wires = omega (arith, few, inputs-length t es all d.wires d.are) in
-      let q' : 3 + n + 1 ≡ 3 + (n + 1) = omega arith in
-      record {
-        wire = get_or d.wires (3 + n) 0;
-        is = ap (λ (w : Word). find true t w es) place ∙ found;
-        left = rw d.are (drop_more d.wires (3 + n) 0 size ∙ ap (λ (m : ℕ). get_or d.wires (3 + n) 0 ∷ drop m d.wires) q');
-        inside = subst (λ (w : Word). w.start + w.len ≤ length t) (sym place) (subst (λ (x : List ℕ). (get_or all (3 + n) argument).start + (get_or all (3 + n) argument).len ≤ length x) d.same_text (argument_inside q.arguments (3 + n) argument few));
-        few = omega (arith, few, d.count_is);
-      }
-
-  -- the wire that the code finds for it
-  pub turn_on : (n : ℕ) (argument : Word) (w : ℕ) → Turn t es q n argument → find true t argument es ≡ Some w
-      → drop (3 + n) (wires_in (input_wires t es (arguments_left q.arguments))) ≡ w ∷ drop (3 + (n + 1)) (wires_in (input_wires t es (arguments_left q.arguments)))
-  turn_on n argument w u f =
-      let z : u.wire ≡ w = some_same (sym u.is ∙ f) in
-      u.left ∙ ap (λ (x : ℕ). x ∷ drop (3 + (n + 1)) (wires_in (input_wires t es (arguments_left q.arguments)))) z
-
-  pub turn_found : (n : ℕ) (argument : Word) → Turn t es q n argument → find true t argument es ≡ None → ⊥
-  turn_found n argument u f = none-some u.wire (sym f ∙ u.is)
-
-  pub all_wires : {B : Type 0} (f : List ℕ → Try B) → f (wires_in (input_wires t es (arguments_left q.arguments))) ≡ and_then (input_wires t es (arguments_left q.arguments)) f
-  all_wires f = rw d.are
-
-  -- no input is left
-  pub turns-end : (n : ℕ) → n ≡ length (drop 3 all) → drop (3 + n) (wires_in (input_wires t es all)) ≡ []
-  turns-end n h = rw d.are (drop_of_length-le d.wires (omega (arith, h, length-drop 3 all, inputs-length t es all d.wires d.are)))
-
-module _ (t : List ℕ) (es : List Entry) (q : Plan) (d : Driven t es q) (three : 3 ≤ q.inputs) (p : Places) (o : Binary) (ns : List BoolNode) where
-  abbrev All : List ℕ
-  All = wires_in (input_wires t es (arguments_left q.arguments))
-
-  -- what the wires of a gate give, from the first three on
-  pub steps_start : chain p q.out o 1 (get_or q.wires 0 0) (get_or q.wires 1 0 ∷ get_or q.wires 2 0 ∷ drop 3 All) (with_nodes ns es)
-      ≡ and_then (input_wires t es (arguments_left q.arguments)) (λ xs. chained p q.out o xs (with_nodes ns es))
+  -- what the wires of a gate of two inputs or more give, from the first two on
+  pub gate_made : Driven t es q → 2 ≤ q.inputs → (ns : List BoolNode) → chain_words t p q.out o 1 (get_or q.wires 0 0) (get_or q.wires 1 0) (drop 2 (arguments_of t q.inside)) (with_nodes ns es)
+      ≡ and_then (input_wires t es (arguments_of t q.inside)) (λ xs. chained p q.out o xs (with_nodes ns es))
   unfolding chained
-  steps_start = rw (d.are, d.firsts) (go d.wires (omega (arith, three, d.count_is, inputs-length t es (arguments_left q.arguments) d.wires d.are)))
+  gate_made d two ns = rw (d.are, d.firsts) (go d.wires d.are (omega (arith, two, d.count_is, inputs-length t es (arguments_of t q.inside) d.wires d.are)))
     where
-      go : (xs : List ℕ) → 3 ≤ length xs → chain p q.out o 1 (get_or xs 0 0) (get_or xs 1 0 ∷ get_or xs 2 0 ∷ drop 3 xs) (with_nodes ns es) ≡ chained p q.out o xs (with_nodes ns es)
-      go [] l = absurd (omega arith)
-      go (x ∷ []) l = absurd (omega arith)
-      go (x ∷ y ∷ []) l = absurd (omega arith)
-      go (x ∷ y ∷ z ∷ zs) l = refl
+      go : (xs : List ℕ) → input_wires t es (arguments_of t q.inside) ≡ Ok xs → 2 ≤ length xs
+          → chain_words t p q.out o 1 (get_or xs 0 0) (get_or xs 1 0) (drop 2 (arguments_of t q.inside)) (with_nodes ns es) ≡ chained p q.out o xs (with_nodes ns es)
+      go [] e l = absurd (omega arith)
+      go (x ∷ []) e l = absurd (omega arith)
+      go (x ∷ y ∷ zs) e l = words_made 1 x y (drop 2 (arguments_of t q.inside)) zs ns (inputs_drop t es 2 (arguments_of t q.inside) (x ∷ y ∷ zs) e)
 
--- the last cell is what is left of a chain when no wire comes after those at hand
-pub last_made : (p : Places) (out : Word) (o : Binary) (es : List Entry) (ns : List ℕ) (c : Chained) → add_named p out (last_cell out o c.signal c.next) (with_nodes (nodes_of ns c.nodes) es) ≡ rest_of es out o p ns c []
-unfolding chain
-last_made p out o es ns c = refl
+-- ---- a walk over the inputs after the second, which makes a step for each
+
+abbrev steps : Skip Arguments → Option Word → Skip Arguments → Type 0
+steps = skip_steps GivesArgument
+
+abbrev Gives : Skip Arguments → List Word → Type 0
+Gives = YieldsList steps (λ w. w)
+
+-- an input that is given, and those after it
+record Turn (s u : Skip Arguments) (ws : List Word) (w : Word) : Type 0 where
+  pub rest : List Word
+  pub first : ws ≡ w ∷ rest
+  pub given : Gives u rest
+
+turn : (s u : Skip Arguments) (ws : List Word) (w : Word) → Gives s ws → steps s (Some w) u → Turn s u ws w
+turn s u [] w g p = absurd (g.runs w u p)
+turn s u (v ∷ vs) w g p =
+    let h = g.runs.1 w u p in
+    record { rest = vs; first = ap (λ (x : Word). x ∷ vs) (sym h.0); given = record { runs = h.1 } }
+
+turn_none : (s u : Skip Arguments) (ws : List Word) → Gives s ws → steps s None u → ws ≡ []
+turn_none s u [] g p = refl
+turn_none s u (v ∷ vs) g p = absurd (g.runs.0 u p)
+
+-- after n inputs: those still to come, with which what is left of the chain gives what the whole gives
+pub record Stepping (t : List ℕ) (es : List Entry) (q : Plan) (o : Binary) (words : ℕ) (old : List ℕ) (first : Chained) (s : Skip Arguments) (n : ℕ) (ns : List ℕ) (c : Chained) : Type 0 where
+  pub coming : List Word
+  pub given : Gives s coming
+  pub stand : All (Inside t) coming
+  pub kept : NodesKept ns c.nodes
+  pub same : (m l : ℕ) → rest_of t es q o (places_in words m l) (n + 1) ns c coming ≡ rest_of t es q o (places_in words m l) 1 old first (drop 2 (arguments_of t q.inside))
+
+all_drop : (t : List ℕ) (n : ℕ) (ws : List Word) → All (Inside t) ws → All (Inside t) (drop n ws)
+all_drop t zero ws a = a
+all_drop t (suc n) [] a = tt
+all_drop t (suc n) (w ∷ ws) a = all_drop t n ws a.1
+
+module _ {t : List ℕ} {es : List Entry} {q : Plan} {o : Binary} {words : ℕ} {old : List ℕ} {first : Chained} where
+  pub stepping_start : Inside t q.inside → NodesKept old first.nodes → (a : Arguments) → arguments_left a ≡ arguments_of t q.inside → (s : Skip Arguments) → skip_source s ≡ a → skip_count s ≡ 2
+      → Stepping t es q o words old first s 0 old first
+  stepping_start i k a e s f n = record {
+    coming = drop 2 (arguments_of t q.inside);
+    given = subst (λ (ws : List Word). Gives s (drop 2 ws)) (ap arguments_left f ∙ e) (YieldsList-from_skip 2 (arguments_given (skip_source s)) n);
+    stand = all_drop t 2 (arguments_of t q.inside) (arguments_inside t q.inside i);
+    kept = k;
+    same = λ m l. refl;
+  }
+
+  module _ {s : Skip Arguments} {n : ℕ} {ns : List ℕ} {c : Chained} (h : Stepping t es q o words old first s n ns c) where
+    pub stepping_end : (u : Skip Arguments) → steps s None u → StepsAre t es q o words old first ns (Ok c)
+    unfolding chain_words
+    stepping_end u p = record {
+      are = λ m l. rw (turn_none s u h.coming h.given p) at (h.same m l);
+      kept = h.kept;
+      kept_refused = tt;
+    }
+
+    module _ (w : Word) (u : Skip Arguments) (p : steps s (Some w) u) where
+      pub stepping_stands : w.start + w.len ≤ length t
+      stepping_stands =
+          let g = turn s u h.coming w h.given p in
+          (subst (All (Inside t)) g.first h.stand).0
+
+      -- an input without a driver
+      pub stepping_stops : (e : Refusal) → Err e ≡ driver (find true t w es) → StepsAre t es q o words old first ns (Err e)
+      stepping_stops e f =
+          let g = turn s u h.coming w h.given p in
+          record {
+            are = λ m l. step_stops t es q o (places_in words m l) (n + 1) ns c w g.rest e f ∙ rw g.first at (h.same m l);
+            kept = tt;
+            kept_refused = (c.nodes, h.kept);
+          }
+
+      -- an input with one, and the step before it
+      module _ (z : ℕ) (f : Ok z ≡ driver (find true t w es)) (new : List ℕ) where
+        pub stepping_refused : (e : Refusal) → Err e ≡ add_node (capacity 9 words) (step_cell q.out o (n + 1) c.signal c.next) (nodes_of ns c.nodes) → NodesKept new c.nodes → StepsAre t es q o words old first new (Err e)
+        stepping_refused e a k =
+            let g = turn s u h.coming w h.given p in
+            record {
+              are = λ m l. step_made t es q o (places_in words m l) (n + 1) ns c w g.rest z f new (Err e) a tt ∙ rw g.first at (h.same m l);
+              kept = tt;
+              kept_refused = (c.nodes, k);
+            }
+
+        pub stepping_on : (d : Chained) → Ok (nodes_of new d.nodes) ≡ add_node (capacity 9 words) (step_cell q.out o (n + 1) c.signal c.next) (nodes_of ns c.nodes)
+            → (d.signal ≡ c.nodes + 2) × (d.next ≡ z) → NodesKept new d.nodes → Stepping t es q o words old first u (n + 1) new d
+        stepping_on d a b k =
+            let g = turn s u h.coming w h.given p in
+            record {
+              coming = g.rest;
+              given = g.given;
+              stand = (subst (All (Inside t)) g.first h.stand).1;
+              kept = k;
+              same = λ m l. step_made t es q o (places_in words m l) (n + 1) ns c w g.rest z f new (Ok d) a b ∙ rw g.first at (h.same m l);
+            }

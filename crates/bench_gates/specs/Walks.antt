@@ -1,30 +1,30 @@
 -- What the code has at hand while it walks the inputs of a gate, one after the other.
 -- Assumes nothing.
-use Rattle.std.specs.Prelude.{ℕ, ◌+◌, ◌≡◌, cond, List, [], ◌∷◌, eqb, length, get_or, drop, Err, Ok, IfOk, OnErr}
+use Rattle.std.specs.Prelude.{ℕ, suc, ◌+◌, ◌≤◌, ◌≡◌, true, cond, List, [], ◌∷◌, eqb, length, get_or, drop, Err, Ok, IfOk, OnErr}
 use Rattle.circuit.specs.declared.refusals.Refusal.TheVariants.{WrongCount}
 use Rattle.circuit.specs.Refusals.{Try, and_then}
 use Rattle.circuit.specs.Records.{nodes_of}
 use Rattle.text.specs.declared.words.Word.{Word}
 use Rattle.names.specs.Names.{Entry}
-use Rattle.reading.specs.Reading.{Places, places_in, Held}
+use Rattle.reading.specs.Reading.{Places, places_in, Held, find, driver, add_node, add_named}
 use Rattle.reading.specs.Holding.{NodesKept}
-use Rattle.bench_invocations.specs.Walks.{arguments_left}
+use Rattle.bench_invocations.specs.Invocations.{arguments_of}
 use Rattle.bench_gates.specs.declared.operations.Binary.{Binary}
 use Rattle.bench_gates.specs.declared.chains.Chained.{Chained}
 use Rattle.bench_gates.specs.declared.plans.Plan.{Plan}
-use Rattle.bench_gates.specs.Gates.{input_wires, with_nodes, chain}
+use Rattle.bench_gates.specs.Gates.{input_wires, step_cell, last_cell, with_nodes}
 
 -- the first three of some wires, 0 where there is none
 abbrev pub first_three : List ℕ → List ℕ
 first_three xs = get_or xs 0 0 ∷ get_or xs 1 0 ∷ get_or xs 2 0 ∷ []
 
--- so many inputs, arguments in the text, each with a driver; and the wires of the first three
+-- so many inputs, arguments in a stretch of the text, each with a driver; and the wires of the first three
 pub record Driven (t : List ℕ) (es : List Entry) (p : Plan) : Type 0 where
   pub wires : List ℕ
-  pub are : input_wires t es (arguments_left p.arguments) ≡ Ok wires
-  pub count_is : p.inputs ≡ length (arguments_left p.arguments)
+  pub are : input_wires t es (arguments_of t p.inside) ≡ Ok wires
+  pub count_is : p.inputs ≡ length (arguments_of t p.inside)
   pub firsts : p.wires ≡ first_three wires
-  pub same_text : p.arguments.text.now ≡ t
+  pub inside_in : p.inside.start + p.inside.len ≤ length t
 
 -- what is tried if there is one input, else 6
 abbrev pub if_one : {A : Type 0} → ℕ → Try A → Try A
@@ -34,19 +34,19 @@ if_one inputs r = cond (eqb inputs 1) r (Err WrongCount)
 abbrev pub NodesKeptForSome : List ℕ → Type 0
 NodesKeptForSome ns = (n : ℕ) × NodesKept ns n
 
--- what a chain gives that is made so far, with the wires that come after those at hand
-abbrev pub rest_of : List Entry → Word → Binary → Places → List ℕ → Chained → List ℕ → Try Held
-rest_of es out o p ns c ys = chain p out o c.step c.signal (c.next ∷ ys) (with_nodes (nodes_of ns c.nodes) es)
+-- `chain` from step k on, with two wires at hand and those of the inputs after them looked up as they come
+unfoldable pub chain_words : List ℕ → Places → Word → Binary → ℕ → ℕ → ℕ → List Word → Held → Try Held
+chain_words t p out o k x y [] h = add_named p out (last_cell out o x y) h
+chain_words t p out o k x y (w ∷ ws) h =
+    and_then (driver (find true t w h.names))
+    (λ z. and_then (add_node p.nodes (step_cell out o k x y) h.nodes) (λ ns. chain_words t p out o (suc k) (length h.nodes + 2) z ws (with_nodes ns h.names)))
 
--- a step of a chain, to which a wire is added: what is left of the chain gives what the whole gives, for nodes of so many words and any other areas
-pub record StepIs (out : Word) (o : Binary) (words : ℕ) (old : List ℕ) (c : Chained) (after : ℕ) (new : List ℕ) (r : Try Chained) : Type 0 where
-  pub is : (es : List Entry) (m l : ℕ) (ys : List ℕ) → and_then r (λ d. rest_of es out o (places_in words m l) new d ys) ≡ rest_of es out o (places_in words m l) old c (after ∷ ys)
-  pub step : IfOk r (λ d. d.step ≡ c.step + 1)
-  pub kept : IfOk r (λ d. NodesKept new d.nodes)
-  pub kept_refused : OnErr r (NodesKeptForSome new)
+-- what a gate's chain gives that is made up to step k, with the inputs that are still to come
+abbrev pub rest_of : List ℕ → List Entry → Plan → Binary → Places → ℕ → List ℕ → Chained → List Word → Try Held
+rest_of t es q o p k ns c ws = chain_words t p q.out o k c.signal c.next ws (with_nodes (nodes_of ns c.nodes) es)
 
--- the steps of all inputs after the third: what is left of the chain gives what the whole gives
+-- the steps of a gate but the last, an input after the second for each: the last cell then gives what the whole chain gives, for nodes of so many words and any other areas
 pub record StepsAre (t : List ℕ) (es : List Entry) (q : Plan) (o : Binary) (words : ℕ) (old : List ℕ) (c : Chained) (new : List ℕ) (r : Try Chained) : Type 0 where
-  pub are : (m l : ℕ) → and_then r (λ d. rest_of es q.out o (places_in words m l) new d []) ≡ and_then (input_wires t es (arguments_left q.arguments)) (λ xs. rest_of es q.out o (places_in words m l) old c (drop 3 xs))
+  pub are : (m l : ℕ) → and_then r (λ d. add_named (places_in words m l) q.out (last_cell q.out o d.signal d.next) (with_nodes (nodes_of new d.nodes) es)) ≡ rest_of t es q o (places_in words m l) 1 old c (drop 2 (arguments_of t q.inside))
   pub kept : IfOk r (λ d. NodesKept new d.nodes)
   pub kept_refused : OnErr r (NodesKeptForSome new)

@@ -1,23 +1,24 @@
 // A chained gate: all its cells but the last.
-ghost use Rattle.std.specs.Prelude.{◌≡◌, ◌+◌, ◌≤◌, ◌<◌, ◌^◌, List, ℕ, [], ◌∷◌, length, IfOk, OnErr};
+ghost use Rattle.std.specs.Prelude.{◌≡◌, ◌+◌, ◌≤◌, ◌<◌, ◌^◌, length, IfOk, OnErr};
 ghost use Rattle.laws.specs.Areas.{capacity};
 ghost use Rattle.circuit.specs.Records.{wire_word, nodes_of};
 ghost use Rattle.names.specs.Chains.{entries};
 ghost use Rattle.reading.specs.Reading.{add_node};
 ghost use Rattle.reading.specs.Holding.{outcome, NodesKept};
 ghost use Rattle.bench_gates.specs.Gates.{cell, step_cell};
-ghost use Rattle.bench_gates.specs.Walks.{Driven, StepIs, StepsAre};
+ghost use Rattle.bench_gates.specs.Walks.{StepsAre};
 
 use crate::inputs::argument_wire;
 use crate::operations::Binary;
 use crate::plans::Plan;
+use bench_invocations::iterators::arguments_of;
 use circuit::records::{BoolNode, BoolWire, Name};
 use circuit::refusals::Refusal;
 use names::NameTable;
 use reading::records::add_node;
 use text::words::Word;
 
-// A cell.
+// A cell. By fields: a constructor would take the same five words by place.
 pub fn bench_lut(name: Name, count: usize, table: usize, x: usize, y: usize) -> BoolNode
     ensures cell_is { result ≡ cell name count table x y }
     ensures first_bound { (wire_word result.first < 2 ^ 64) × (wire_word result.second < 2 ^ 64) }
@@ -56,31 +57,33 @@ pub fn push_bench_lut(
     add_node(bench_lut(name, 2, table, x, y), count, nodes)
 }
 
-// How far a chain is made: the nodes, the step that comes next, and the two wires that it takes.
+// How far a chain is made: the nodes, and the two wires that the next step takes.
 #[derive(Clone, Copy)]
 pub struct Chained {
     pub nodes: usize,
-    pub step: usize,
     pub signal: usize,
     pub next: usize,
 }
 
-// The next step, which is not the last since a wire comes after those that it takes.
+// A step, which is not the last since a wire comes after those that it takes.
 pub fn chain_step(
     out: Word,
     operation: Binary,
+    step: usize,
     chained: Chained,
     after: usize,
     nodes: &mut [usize],
 ) -> Result<Chained, Refusal>
     requires nodes_kept { NodesKept nodes.old chained.nodes }
-    requires step_bound { chained.step + 1 < 2 ^ 64 }
-    ensures { StepIs out operation (length nodes.old) nodes.old chained after nodes.new result }
+    ensures nodes_kept { IfOk result (λ d. NodesKept nodes.new d.nodes) }
+    ensures nodes_refused { OnErr result (NodesKept nodes.new chained.nodes) }
+    ensures nodes_after { outcome (λ d. nodes_of nodes.new d.nodes) result ≡ add_node (capacity 9 (length nodes.old)) (step_cell out operation step chained.signal chained.next) (nodes_of nodes.old chained.nodes) }
+    ensures wires_after { IfOk result (λ d. (d.signal ≡ chained.nodes + 2) × (d.next ≡ after)) }
 {
     let made = push_bench_lut(
         out,
         operation,
-        chained.step,
+        step,
         chained.signal,
         chained.next,
         chained.nodes,
@@ -88,29 +91,28 @@ pub fn chain_step(
     )?;
     Ok(Chained {
         nodes: made,
-        step: chained.step + 1,
         signal: chained.nodes + 2,
         next: after,
     })
 }
 
-// The steps that the inputs after the third add.
+// All steps of a gate but the last: one for each input after the second.
+#[tactic(auto, using(crate::proofs::Chaining::stepping_on))]
 pub fn chain_steps(
     table: &NameTable,
     plan: Plan,
     operation: Binary,
-    second: Chained,
+    first: Chained,
     nodes: &mut [usize],
 ) -> Result<Chained, Refusal>
-    requires nodes_kept { NodesKept nodes.old second.nodes }
-    requires driven { Driven table.now.text.now (entries table.now.names.now table.now.count) plan }
-    requires second { second.step ≡ 2 }
-    ensures { StepsAre table.now.text.now (entries table.now.names.now table.now.count) plan.entry operation (length nodes.old) nodes.old second nodes.new result }
+    requires nodes_kept { NodesKept nodes.old first.nodes }
+    requires inside_in_bounds { plan.inside.start + plan.inside.len ≤ length table.now.text.now }
+    ensures { StepsAre table.now.text.now (entries table.now.names.now table.now.count) plan operation (length nodes.old) nodes.old first nodes.new result }
 {
-    let mut chained = second;
-    for argument in plan.arguments.skip(3) {
+    let mut chained = first;
+    for (k, argument) in arguments_of(table.text, plan.inside).skip(2).enumerate() {
         let wire = argument_wire(table, argument)?;
-        chained = chain_step(plan.out, operation, chained, wire, nodes)?;
+        chained = chain_step(plan.out, operation, k + 1, chained, wire, nodes)?;
     }
     Ok(chained)
 }

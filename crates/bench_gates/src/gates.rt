@@ -1,15 +1,15 @@
 // A gate whose inputs have drivers: the nodes and the name that it adds.
-ghost use Rattle.std.specs.Prelude.{◌≡◌, ℕ, ◌+◌, ◌≤◌, length, get_or, IfOk, OnErr};
+ghost use Rattle.std.specs.Prelude.{◌≡◌, ℕ, ◌+◌, ◌≤◌, length, get_or, drop, IfOk, OnErr};
 ghost use Rattle.laws.specs.Areas.{capacity};
 ghost use Rattle.circuit.specs.Refusals.{and_then};
 ghost use Rattle.names.specs.Chains.{entries, Table};
 ghost use Rattle.reading.specs.Reading.{places_in, add_name, add_named};
 ghost use Rattle.reading.specs.Holding.{outcome, held_of, Kept, KeptForSome};
-ghost use Rattle.bench_gates.specs.Gates.{input_wires, inverter, chained, lower_gate};
-ghost use Rattle.bench_invocations.specs.Walks.{arguments_left};
-ghost use Rattle.bench_gates.specs.Walks.{Driven, if_one};
+ghost use Rattle.bench_gates.specs.Gates.{input_wires, inverter, lower_gate};
+ghost use Rattle.bench_invocations.specs.Invocations.{arguments_of};
+ghost use Rattle.bench_gates.specs.Walks.{Driven, if_one, chain_words};
 
-use crate::chains::{Chained, bench_lut, chain_step, chain_steps};
+use crate::chains::{Chained, bench_lut, chain_steps};
 use crate::operations::{Binary, Operation};
 use crate::plans::Plan;
 use crate::short_chains::{chain_pair, chain_triple};
@@ -29,7 +29,7 @@ pub fn lower_buffer(
     requires len_in_bounds { plan.out.start + plan.out.len ≤ length text.now }
     ensures table_2 { IfOk result (λ n. Table text.now heads.new names.new n) }
     ensures table_refused { OnErr result (Table text.now heads.new names.new count) }
-    ensures count_after { outcome (λ n. entries names.new n) result ≡ if_one plan.entry.inputs (add_name (capacity 4 (length names.old)) plan.entry.out (get_or plan.entry.wires 0 0) (entries names.old count)) }
+    ensures count_after { outcome (λ n. entries names.new n) result ≡ if_one plan.inputs (add_name (capacity 4 (length names.old)) plan.out (get_or plan.wires 0 0) (entries names.old count)) }
 {
     if plan.inputs != 1 {
         return Err(Refusal::WrongCount);
@@ -50,7 +50,7 @@ pub fn lower_inverter(
     requires len_in_bounds { plan.out.start + plan.out.len ≤ length text.now }
     ensures kept_2 { IfOk result (λ c. Kept text.now heads.new nodes.new names.new c) }
     ensures kept_refused { OnErr result (KeptForSome text.now heads.new nodes.new names.new) }
-    ensures by_index { (l : ℕ) → outcome (λ c. held_of nodes.new names.new c) result ≡ if_one plan.entry.inputs (add_named (places_in (length nodes.old) (length names.old) l) plan.entry.out (inverter plan.entry.out (get_or plan.entry.wires 0 0)) (held_of nodes.old names.old counts)) }
+    ensures by_index { (l : ℕ) → outcome (λ c. held_of nodes.new names.new c) result ≡ if_one plan.inputs (add_named (places_in (length nodes.old) (length names.old) l) plan.out (inverter plan.out (get_or plan.wires 0 0)) (held_of nodes.old names.old counts)) }
 {
     if plan.inputs != 1 {
         return Err(Refusal::WrongCount);
@@ -59,7 +59,7 @@ pub fn lower_inverter(
     add_named(text, plan.out, node, counts, heads, nodes, names)
 }
 
-// Three inputs or more of an operation of two: the steps, then the last cell.
+// A chain of any length: the steps, then the last cell. The first two wires are at hand, the others are looked up as they come.
 pub fn chain_many(
     text: &[u8],
     plan: Plan,
@@ -71,11 +71,10 @@ pub fn chain_many(
 ) -> Result<Counts, Refusal>
     requires kept { Kept text.now heads.old nodes.old names.old counts }
     requires len_in_bounds { plan.out.start + plan.out.len ≤ length text.now }
-    requires driven { Driven text.now (entries names.old counts.names) plan }
-    requires three { 3 ≤ plan.inputs }
+    requires inside_in_bounds { plan.inside.start + plan.inside.len ≤ length text.now }
     ensures kept_2 { IfOk result (λ c. Kept text.now heads.new nodes.new names.new c) }
     ensures kept_refused { OnErr result (KeptForSome text.now heads.new nodes.new names.new) }
-    ensures by_index { (l : ℕ) → outcome (λ c. held_of nodes.new names.new c) result ≡ and_then (input_wires text.now (entries names.old counts.names) (arguments_left plan.entry.arguments)) (λ xs. chained (places_in (length nodes.old) (length names.old) l) plan.entry.out operation xs (held_of nodes.old names.old counts)) }
+    ensures by_index { (l : ℕ) → outcome (λ c. held_of nodes.new names.new c) result ≡ chain_words text.now (places_in (length nodes.old) (length names.old) l) plan.out operation 1 (get_or plan.wires 0 0) (get_or plan.wires 1 0) (drop 2 (arguments_of text.now plan.inside)) (held_of nodes.old names.old counts) }
 {
     let table = NameTable {
         text,
@@ -83,15 +82,13 @@ pub fn chain_many(
         names,
         count: counts.names,
     };
-    let [x, y, z] = plan.wires;
+    let [signal, next, _] = plan.wires;
     let first = Chained {
         nodes: counts.nodes,
-        step: 1,
-        signal: x,
-        next: y,
+        signal,
+        next,
     };
-    let second = chain_step(plan.out, operation, first, z, nodes)?;
-    let last = chain_steps(&table, plan, operation, second, nodes)?;
+    let last = chain_steps(&table, plan, operation, first, nodes)?;
     let made = Counts {
         nodes: last.nodes,
         ..counts
@@ -123,7 +120,7 @@ pub fn lower_bench_gate(
     requires driven { Driven text.now (entries names.old counts.names) plan }
     ensures kept_2 { IfOk result (λ c. Kept text.now heads.new nodes.new names.new c) }
     ensures kept_refused { OnErr result (KeptForSome text.now heads.new nodes.new names.new) }
-    ensures by_index { (l : ℕ) → outcome (λ c. held_of nodes.new names.new c) result ≡ and_then (input_wires text.now (entries names.old counts.names) (arguments_left plan.entry.arguments)) (λ xs. lower_gate (places_in (length nodes.old) (length names.old) l) plan.entry.out plan.entry.operation xs (held_of nodes.old names.old counts)) }
+    ensures by_index { (l : ℕ) → outcome (λ c. held_of nodes.new names.new c) result ≡ and_then (input_wires text.now (entries names.old counts.names) (arguments_of text.now plan.inside)) (λ xs. lower_gate (places_in (length nodes.old) (length names.old) l) plan.out plan.operation xs (held_of nodes.old names.old counts)) }
 {
     let Plan { out, wires, .. } = plan;
     match (plan.operation, plan.inputs) {

@@ -3,11 +3,11 @@ ghost use Rattle.std.specs.Prelude.{◌≡◌, true, ◌+◌, ◌≤◌, length}
 ghost use Rattle.names.specs.Chains.{entries};
 ghost use Rattle.reading.specs.Reading.{find, driver};
 ghost use Rattle.reading.specs.Holding.{outcome};
-ghost use Rattle.bench_invocations.specs.Walks.{arguments_left};
+ghost use Rattle.bench_invocations.specs.Invocations.{arguments_of};
 ghost use Rattle.bench_gates.specs.Gates.{input_wires};
 ghost use Rattle.bench_gates.specs.Walks.{first_three};
 
-use bench_invocations::arguments::Arguments;
+use bench_invocations::iterators::arguments_of;
 use circuit::refusals::Refusal;
 use names::NameTable;
 use text::words::Word;
@@ -36,13 +36,14 @@ pub fn argument_wire(table: &NameTable, argument: Word) -> Result<usize, Refusal
     find_wire(table, argument).ok_or(Refusal::NoDriver)
 }
 
-// The wires of the first three inputs (0 where there is none), from which a gate of two or three is made; 5 at the first input without a driver.
-pub fn input_wires(table: &NameTable, arguments: Arguments) -> Result<[usize; 3], Refusal>
-    requires same_text { arguments.text.now ≡ table.now.text.now }
-    ensures { result ≡ outcome first_three (input_wires table.now.text.now (entries table.now.names.now table.now.count) (arguments_left arguments.entry)) }
+// The wires of the first three of the inputs in a stretch (0 where there is none), from which a gate of two or three is made; 5 at the first input without a driver.
+#[tactic(auto, using(crate::proofs::Drivers::walking_first, crate::proofs::Drivers::walking_later))]
+pub fn input_wires(table: &NameTable, inside: Word) -> Result<[usize; 3], Refusal>
+    requires { inside.start + inside.len ≤ length table.now.text.now }
+    ensures { result ≡ outcome first_three (input_wires table.now.text.now (entries table.now.names.now table.now.count) (arguments_of table.now.text.now inside)) }
 {
     let mut wires = [0; 3];
-    for (n, argument) in arguments.enumerate() {
+    for (n, argument) in arguments_of(table.text, inside).enumerate() {
         let wire = argument_wire(table, argument)?;
         if n < 3 {
             wires[n] = wire;

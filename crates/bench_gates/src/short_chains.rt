@@ -32,7 +32,7 @@ pub fn chain_pair(
     add_named(text, out, node, counts, heads, nodes, names)
 }
 
-// A gate of three inputs: the step that chains the first two, then the last cell.
+// A gate of three inputs: the step that chains the first two, then the last cell. Beside `chain_many`, which looks for the third input's wire again.
 pub fn chain_triple(
     text: &[u8],
     out: Word,

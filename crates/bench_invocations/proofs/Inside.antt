@@ -1,13 +1,12 @@
 -- What an iterator of arguments gives, and that each argument lies in the text.
 -- Assumes nothing.
-use Prim.Native.Nat.{ℕ, zero, suc, ◌+◌, ◌-◌, ◌≤◌, ◌<◌}
+use Prim.Native.Nat.{ℕ, zero, suc, ◌+◌, ◌-◌, ◌≤◌}
 use mathlib.Core.Path.{◌≡◌, refl, ap}
-use mathlib.Core.Bool.{Bool, true, false}
-use mathlib.Core.List.{List, [], ◌∷◌}
-use native.Mathlib.Nat.{not-suc-le-zero}
+use mathlib.Core.Bool.{Bool, true, false, cond}
+use mathlib.Core.List.{List, []}
 use native.Mathlib.Omega.{arith}
 use lib.Dec.{leb}
-use lib.ListN.{length, get_or, take, drop}
+use lib.ListN.{length, take, drop}
 use borrow.Author.Tests.{leb-true, leb-false}
 use Rattle.std.proofs.lemmas.Iterator.{YieldsList}
 use Rattle.std.proofs.lemmas.Iterator.Consumers.{YieldsList-from_shown}
@@ -19,8 +18,10 @@ use Rattle.text.specs.Words.{bytes_of, between}
 use Rattle.text.specs.declared.words.Word.{Word}
 use Rattle.text.proofs.BlankLaws.{trimmed_bytes}
 use Rattle.bench_invocations.specs.declared.arguments.Arguments.{Arguments}
+use Rattle.bench_invocations.specs.Invocations.{blank, trimmed_parts, arguments_of}
 use Rattle.bench_invocations.specs.Walks.{arguments_from, arguments_left, GivesArgument}
 use Rattle.bench_invocations.proofs.Parts.{arguments_over, argument_first}
+use Rattle.bench_invocations.proofs.Parsing.{arguments_all}
 
 pub arguments_given : (a : Arguments) → YieldsList GivesArgument (λ x. x) a (arguments_left a)
 arguments_given a = YieldsList-from_shown GivesArgument (λ x. x) arguments_left (λ t u h. ap length h.first.0) (λ t x u h. h.first) a
@@ -59,14 +60,20 @@ arguments_up_to (suc n) t at end el h = go (leb at end) refl (λ next k. argumen
         rw (argument_first t at end cut p el refl c (trimmed t (between at cut)) refl)
         (record { each = (trimmed_inside t (between at cut) (omega arith), rest.each); number = omega (arith, rest.number) })
 
--- there are no more arguments than places
-pub argument_count : (a : Arguments) → length (arguments_left a) ≤ a.end + 1 - a.at
-argument_count a = (arguments_up_to (a.end + 1 - a.at) a.text.now a.at a.end a.inside.1 (omega arith)).number
+-- ---- the arguments in a stretch of the text
 
-pub argument_inside : (a : Arguments) (i : ℕ) (d : Word) → i < length (arguments_left a) → Inside a.text.now (get_or (arguments_left a) i d)
-argument_inside a i d h = at_place (arguments_left a) i (arguments_up_to (a.end + 1 - a.at) a.text.now a.at a.end a.inside.1 (omega arith)).each h
-  where
-    at_place : (ws : List Word) (i : ℕ) → All (Inside a.text.now) ws → i < length ws → Inside a.text.now (get_or ws i d)
-    at_place [] i p h = absurd (not-suc-le-zero h)
-    at_place (w ∷ ws) zero p h = p.0
-    at_place (w ∷ ws) (suc i) p h = at_place ws i p.1 (omega arith)
+module _ (t : List ℕ) (w : Word) (h : Inside t w) where
+  bounded : Bounded t (w.len + 1) (arguments_of t w)
+  unfolding arguments_of
+  bounded = go (blank t w)
+    where
+      go : (b : Bool) → Bounded t (w.len + 1) (cond b [] (trimmed_parts t w))
+      go true = record { each = tt; number = omega arith }
+      go false = rw (arguments_all t w) at (arguments_up_to (w.len + 1) t w.start (w.start + w.len) h (omega arith))
+
+  -- there are no more arguments than places
+  pub argument_count : length (arguments_of t w) ≤ w.len + 1
+  argument_count = bounded.number
+
+  pub arguments_inside : All (Inside t) (arguments_of t w)
+  arguments_inside = bounded.each

@@ -27,6 +27,11 @@ malformed t e i q = record { is = q; noted = tt }
 
 -- ---- the arguments in a stretch
 
+pub arguments_all : (t : List ℕ) (w : Word) → arguments_from t w.start (w.start + w.len) ≡ trimmed_parts t w
+arguments_all t w =
+    let q : w.start + w.len - w.start ≡ w.len = omega arith in
+    arguments_here t w.start (w.start + w.len) (omega arith) ∙ ap (λ (n : ℕ). trimmed_parts t (record { start = w.start; len = n })) q
+
 module _ (t : List ℕ) (w v : Word) (e : v ≡ trimmed t w) where
   pub none_of : v.len ≡ 0 → arguments_from t (w.start + w.len + 1) (w.start + w.len) ≡ arguments_of t w
   unfolding arguments_of
@@ -34,41 +39,9 @@ module _ (t : List ℕ) (w v : Word) (e : v ≡ trimmed t w) where
 
   pub some_of : (v.len ≡ 0 → ⊥) → arguments_from t w.start (w.start + w.len) ≡ arguments_of t w
   unfolding arguments_of
-  some_of nz =
-      let q : w.start + w.len - w.start ≡ w.len = omega arith in
-      rw (ne_eqb (trimmed t w).len 0 (λ z. nz (ap (λ (x : Word). x.len) e ∙ z))) (arguments_here t w.start (w.start + w.len) (omega arith) ∙ ap (λ (n : ℕ). trimmed_parts t (record { start = w.start; len = n })) q)
+  some_of nz = rw (ne_eqb (trimmed t w).len 0 (λ z. nz (ap (λ (x : Word). x.len) e ∙ z))) (arguments_all t w)
 
 -- ---- the parentheses
-
-module _ (t : List ℕ) (from end opening closing : ℕ) (h : opening < end) where
-  pub reversed : closing ≤ opening → Err Malformed ≡ invocation t from end opening (closing + 1)
-  unfolding invocation
-  reversed k =
-      let q : closing + 1 ≤ opening + 1 = omega arith in
-      rw (lt-ltb opening end h, le-ltb (opening + 1) (closing + 1) q)
-
-  module _ (k : opening < closing) (w : Word) (e : w ≡ trimmed t (between (closing + 1) end)) where
-    order : ltb (opening + 1) (closing + 1) ≡ true
-    order = lt-ltb (opening + 1) (closing + 1) (omega arith)
-
-    pub more_after : (w.len ≡ 0 → ⊥) → Err Malformed ≡ invocation t from end opening (closing + 1)
-    unfolding invocation
-    more_after nz = rw (lt-ltb opening end h, order, ne_eqb (trimmed t (between (closing + 1) end)).len 0 (λ q. nz (ap (λ (x : Word). x.len) e ∙ q)))
-
-    module _ (z : w.len ≡ 0) (o : Word) (eo : o ≡ trimmed t (between from opening)) where
-      pub lacks_operation : o.len ≡ 0 → Err Malformed ≡ invocation t from end opening (closing + 1)
-      unfolding invocation
-      lacks_operation y =
-          rw (lt-ltb opening end h, order, eq-eqb _ 0 (ap (λ (x : Word). x.len) (sym e) ∙ z), eq-eqb _ 0 (ap (λ (x : Word). x.len) (sym eo) ∙ y))
-
-      pub has_operation : (o.len ≡ 0 → ⊥) → (v : Word) → v ≡ between (opening + 1) closing → (r : Try Invocation) → InvokedIs t o v r → InvocationIs t r (invocation t from end opening (closing + 1))
-      unfolding invocation
-      has_operation ny v ev r i =
-          let q : closing + 1 - 1 ≡ closing = omega arith in
-          record {
-            is = rw (lt-ltb opening end h, order, eq-eqb _ 0 (ap (λ (x : Word). x.len) (sym e) ∙ z), ne_eqb (trimmed t (between from opening)).len 0 (λ s. ny (ap (λ (x : Word). x.len) eo ∙ s)), q, ← ev, ← eo) i.is;
-            noted = i.noted;
-          }
 
 -- what the look-ups of the parentheses say
 module _ (t : List ℕ) (line : Word) where
@@ -96,15 +69,6 @@ module _ (t : List ℕ) (line : Word) where
       go true = refl
       go false = refl
 
-  pub parentheses : (opening closing : ℕ) → Some opening ≡ first_place 40 t line → Some closing ≡ last_place 41 t line
-      → invocation t line.start (line.start + line.len) opening (closing + 1) ≡ parse_invocation t line
-  unfolding first_place last_place parse_invocation
-  parentheses opening closing eo ec =
-      let o = place_found before line.len _ opening eo in
-      let f = place_found 0 last _ closing ec in
-      let c : closing + 1 ≡ line.start + last = omega (arith, f) in
-      rw (o.0, c)
-
   pub opening_inside : (opening : ℕ) → Some opening ≡ first_place 40 t line → (line.start ≤ opening) × (opening < line.start + line.len)
   unfolding first_place
   opening_inside opening e =
@@ -116,3 +80,47 @@ module _ (t : List ℕ) (line : Word) where
   closing_inside closing e =
       let c = place_found 0 last _ closing e in
       omega (arith, c, last-short 41 (bytes_of t line), length-stretch_le t line.start line.len)
+
+  -- the tests of a line with its first `(` and its last `)`
+  module _ (opening closing : ℕ) (eo : Some opening ≡ first_place 40 t line) (ec : Some closing ≡ last_place 41 t line) where
+    abbrev end : ℕ
+    end = line.start + line.len
+
+    parentheses : invocation t line.start end opening (closing + 1) ≡ parse_invocation t line
+    unfolding first_place last_place parse_invocation
+    parentheses =
+        let o = place_found before line.len _ opening eo in
+        let f = place_found 0 last _ closing ec in
+        let c : closing + 1 ≡ line.start + last = omega (arith, f) in
+        rw (o.0, c)
+
+    opened : ltb opening end ≡ true
+    opened = lt-ltb opening end (opening_inside opening eo).1
+
+    pub reversed : closing ≤ opening → Err Malformed ≡ parse_invocation t line
+    unfolding invocation
+    reversed k =
+        let q : closing + 1 ≤ opening + 1 = omega arith in
+        rw (opened, le-ltb (opening + 1) (closing + 1) q) at parentheses
+
+    module _ (k : opening < closing) (w : Word) (e : w ≡ trimmed t (between (closing + 1) end)) where
+      order : ltb (opening + 1) (closing + 1) ≡ true
+      order = lt-ltb (opening + 1) (closing + 1) (omega arith)
+
+      pub more_after : (w.len ≡ 0 → ⊥) → Err Malformed ≡ parse_invocation t line
+      unfolding invocation
+      more_after nz = rw (opened, order, ne_eqb (trimmed t (between (closing + 1) end)).len 0 (λ q. nz (ap (λ (x : Word). x.len) e ∙ q))) at parentheses
+
+      module _ (z : w.len ≡ 0) (o : Word) (f : o ≡ trimmed t (between line.start opening)) where
+        pub lacks_operation : o.len ≡ 0 → Err Malformed ≡ parse_invocation t line
+        unfolding invocation
+        lacks_operation y = rw (opened, order, eq-eqb _ 0 (ap (λ (x : Word). x.len) (sym e) ∙ z), eq-eqb _ 0 (ap (λ (x : Word). x.len) (sym f) ∙ y)) at parentheses
+
+        pub has_operation : (o.len ≡ 0 → ⊥) → (v : Word) → v ≡ between (opening + 1) closing → (r : Try Invocation) → InvokedIs t o v r → InvocationIs t r (parse_invocation t line)
+        unfolding invocation
+        has_operation ny v ev r i =
+            let q : closing + 1 - 1 ≡ closing = omega arith in
+            record {
+              is = i.is ∙ rw (opened, order, eq-eqb _ 0 (ap (λ (x : Word). x.len) (sym e) ∙ z), ne_eqb (trimmed t (between line.start opening)).len 0 (λ s. ny (ap (λ (x : Word). x.len) f ∙ s)), q, ← ev, ← f) at parentheses;
+              noted = i.noted;
+            }

@@ -123,14 +123,6 @@ pub arguments_here : (t : List ℕ) (at end : ℕ) → at ≤ end → arguments_
 unfolding arguments_from
 arguments_here t at end h = rw (le-leb at end h)
 
-pub arguments_some : (t : List ℕ) (at end : ℕ) → 1 ≤ length (arguments_from t at end) → at ≤ end
-unfolding arguments_from
-arguments_some t at end h = go (leb at end) refl h
-  where
-    go : (b : Bool) → leb at end ≡ b → 1 ≤ length (cond b (trimmed_parts t (between at end)) []) → at ≤ end
-    go true e k = leb-true at end e
-    go false e k = absurd (omega arith)
-
 module _ (t : List ℕ) (at end cut : ℕ) (ae : at ≤ end) (el : end ≤ length t) (e : cut ≡ at + run (is_not 44) (stretch t at (end - at))) (ce : cut ≤ end) where
   bytes : List ℕ
   bytes = stretch t at (end - at)

@@ -37,18 +37,18 @@ abbrev pub counted : List Word → ℕ → Try ℕ
 counted ws n = need (none_empty ws) Malformed (Ok (n + length ws))
 
 -- an invocation as the code notes it
-abbrev pub invoked : Invocation → Invoked
-invoked v = record { operation = v.operation; arguments = arguments_left v.arguments }
+abbrev pub invoked : List ℕ → Invocation → Invoked
+invoked t v = record { operation = v.operation; arguments = arguments_of t v.inside }
 
 -- what is noted stands in the text, with as many arguments as noted
 pub record NotedIn (t : List ℕ) (v : Invocation) : Type 0 where
-  pub inside : v.operation.start + v.operation.len ≤ length t
-  pub same_text : v.arguments.text.now ≡ t
-  pub count_is : v.count ≡ length (arguments_left v.arguments)
+  pub operation_in : v.operation.start + v.operation.len ≤ length t
+  pub inside_in : v.inside.start + v.inside.len ≤ length t
+  pub count_is : v.count ≡ length (arguments_of t v.inside)
 
 -- an invocation of the text, or the refusal
 pub record InvocationIs (t : List ℕ) (r : Try Invocation) (i : Try Invoked) : Type 0 where
-  pub is : outcome invoked r ≡ i
+  pub is : outcome (invoked t) r ≡ i
   pub noted : IfOk r (NotedIn t)
 
 -- the arguments in a stretch of a text, of an operation: "blank arguments mean none"

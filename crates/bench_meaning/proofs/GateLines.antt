@@ -26,12 +26,13 @@ use Rattle.bench_gates.specs.Operations.{operation_of}
 use Rattle.bench_gates.specs.Gates.{input_wires, lower_gate}
 use Rattle.bench.specs.Bench.{Gate, gate_invoked, gate_of, gate_line}
 use Rattle.bench_meaning.specs.Operations.{operation_bit}
-use Rattle.bench_meaning.specs.GateMeaning.{CarryAll, Bits}
+use Rattle.bench_meaning.specs.GateMeaning.{wire_value, CarryAll, Bits}
 use Rattle.bench_meaning.specs.TextMeaning.{Equation}
 use Rattle.reading.proofs.Made.{named_made, driver_found}
 use Rattle.bench_meaning.proofs.Values.{wire_kept, wire_new}
 use Rattle.bench_meaning.proofs.GateMeans.{gate_means}
-use Rattle.bench_meaning.proofs.Growing.{HeldWired, value, Defined, value_at, Grows, all_defined_on, values_on, Added, added}
+use Rattle.reading.proofs.Growing.{all_known_on}
+use Rattle.bench_meaning.proofs.Growing.{HeldWired, value, Defined, value_at, Grows, values_on, Added, added}
 
 -- ---- the number of inputs
 
@@ -105,7 +106,7 @@ module _ (t a : List ℕ) where
         grows = s.grows;
         wired = s.wired;
         defined = s.defined;
-        inputs_defined = all_defined_on t a h h' s.grows ws d.defined;
+        inputs_defined = all_known_on (find true t) (wire_value a) h h' s.grows ws d.defined;
         equation = λ b. s.is ∙ m.means (subst Bits same (bits_of h' ws b)) ∙ ap (operation_bit o) (sym same);
         counted = ap input_count l.appended ∙ count_append h.nodes l.cells ∙ omega (arith, count-cells l.cells l.are_cells);
       }

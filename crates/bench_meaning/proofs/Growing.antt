@@ -2,10 +2,9 @@
 -- Assumes nothing.
 use Rattle.std.specs.Prelude.{None, Option, Some}
 use Prim.Native.Nat.{ℕ, ◌+◌, ◌≤◌, ◌<◌}
-use mathlib.Core.Path.{◌≡◌, refl, sym, ap, ap₂, ◌∙◌, subst}
+use mathlib.Core.Path.{◌≡◌, sym, ap, ◌∙◌, subst}
 use mathlib.Core.Bool.{true}
-use mathlib.Core.List.{List, [], ◌∷◌, map}
-use native.Mathlib.Omega.{arith}
+use mathlib.Core.List.{List, ◌∷◌, map}
 use lib.ListN.{length}
 use Rattle.laws.specs.Stretches.{All}
 use Rattle.circuit.specs.declared.records.BoolWire.{BoolWire}
@@ -14,6 +13,7 @@ use Rattle.names.specs.Names.{Entry}
 use Rattle.reading.specs.Reading.{Held, find}
 use Rattle.reading.proofs.Ended.{wire_at}
 use Rattle.reading.proofs.Sound.{Wired, wired_more, find_below}
+use Rattle.reading.proofs.Growing.{Known, Grows as GrowsBy, value_kept, values_kept}
 use Rattle.runs.specs.Values.{signal_value, storage_values}
 use Rattle.bench_meaning.specs.GateMeaning.{wire_value, Carries}
 use Rattle.bench_meaning.specs.TextMeaning.{name_value}
@@ -32,43 +32,24 @@ module _ (t a : List ℕ) where
   value h w = name_value t h.nodes (wire_named t h.names) a w
 
   abbrev pub Defined : Held → Word → Type 0
-  Defined h w = (x : ℕ) × (find true t w h.names ≡ Some x)
+  Defined = Known (find true t) (wire_value a)
 
   pub value_at : (h : Held) (w : Word) (x : ℕ) → find true t w h.names ≡ Some x → value h w ≡ wire_value a h.nodes x
   unfolding wire_value
   value_at h w x q = ap (λ (f : Option ℕ). signal_value (storage_values h.nodes a) (wire_at f)) (sym (find-is t w h.names) ∙ q)
 
-  pub record Grows (h h' : Held) : Type 0 where
-    pub names : (w : Word) (x : ℕ) → find true t w h.names ≡ Some x → find true t w h'.names ≡ Some x
-    pub wires : (x : ℕ) → x < length h.nodes + 2 → wire_value a h'.nodes x ≡ wire_value a h.nodes x
-    pub more : length h.nodes ≤ length h'.nodes
+  abbrev pub Grows : Held → Held → Type 0
+  Grows = GrowsBy (find true t) (wire_value a)
 
-  pub grows_none : (h : Held) → Grows h h
-  grows_none h = record { names = λ w x q. q; wires = λ x k. refl; more = omega arith }
+  find_below_all : (h : Held) (w : Word) (x : ℕ) → HeldWired h → find true t w h.names ≡ Some x → x < length h.nodes + 2
+  find_below_all h w x wd q = find_below (length h.nodes) true t w h.names x wd q
 
-  pub grows_on : (h h' h'' : Held) → Grows h h' → Grows h' h'' → Grows h h''
-  grows_on h h' h'' f g = record {
-    names = λ w x q. g.names w x (f.names w x q);
-    wires = λ x k. g.wires x (omega (arith, f.more)) ∙ f.wires x k;
-    more = omega (arith, f.more, g.more);
-  }
+  module _ (h h' : Held) (g : Grows h h') (wd : HeldWired h) where
+    pub value_on : (w : Word) → Defined h w → value h' w ≡ value h w
+    value_on w d = value_kept (find true t) (wire_value a) h h' g value value_at find_below_all wd w d
 
-  module _ (h h' : Held) (g : Grows h h') where
-    pub defined_on : (w : Word) → Defined h w → Defined h' w
-    defined_on w d = (d.0, g.names w d.0 d.1)
-
-    pub all_defined_on : (ws : List Word) → All (Defined h) ws → All (Defined h') ws
-    all_defined_on [] d = tt
-    all_defined_on (w ∷ ws) d = (defined_on w d.0, all_defined_on ws d.1)
-
-    module _ (wd : HeldWired h) where
-      pub value_on : (w : Word) → Defined h w → value h' w ≡ value h w
-      value_on w d =
-          value_at h' w d.0 (g.names w d.0 d.1) ∙ g.wires d.0 (find_below (length h.nodes) true t w h.names d.0 wd d.1) ∙ sym (value_at h w d.0 d.1)
-
-      pub values_on : (ws : List Word) → All (Defined h) ws → map (value h') ws ≡ map (value h) ws
-      values_on [] d = refl
-      values_on (w ∷ ws) d = ap₂ (λ (v : ℕ) (vs : List ℕ). v ∷ vs) (value_on w d.0) (values_on ws d.1)
+    pub values_on : (ws : List Word) → All (Defined h) ws → map (value h') ws ≡ map (value h) ws
+    values_on ws d = values_kept (find true t) (wire_value a) h h' g value value_at find_below_all wd ws d
 
   -- ---- a name more
 

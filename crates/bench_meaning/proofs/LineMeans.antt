@@ -13,7 +13,7 @@ use Rattle.circuit.specs.Refusals.{Try, and_then}
 use Rattle.circuit.proofs.Tries.{no_yes, then_yes}
 use Rattle.text.specs.Blanks.{trimmed}
 use Rattle.text.specs.declared.words.Word.{Word}
-use Rattle.reading.specs.Reading.{Places, Held, State, add_input, add_output}
+use Rattle.reading.specs.Reading.{Places, Held, State, find, add_input, add_output}
 use Rattle.reading.specs.States.{with_held, with_outputs}
 use Rattle.reading.proofs.Made.{output_made}
 use Rattle.reading.proofs.States.{held_yes, outputs-yes}
@@ -23,8 +23,10 @@ use Rattle.bench_invocations.specs.Invocations.{Invoked, parse_invocation}
 use Rattle.bench.specs.declared.declarations.Declaration.{Declaration}
 use Rattle.bench.specs.declared.declarations.Declaration.TheVariants.{Input, Output, Other}
 use Rattle.bench.specs.Bench.{Declared, gate_line, declared_in, declare, declaration_line, line_step, read_line}
+use Rattle.bench_meaning.specs.GateMeaning.{wire_value}
 use Rattle.bench_meaning.specs.TextMeaning.{cut_of, is_gate, GateLine, gate_said, gate_in, input_named, output_named, said, Equation, Assigned}
-use Rattle.bench_meaning.proofs.Growing.{HeldWired, value, Defined, Grows, grows_none}
+use Rattle.bench_meaning.proofs.Growing.{HeldWired, value, Defined, Grows}
+use Rattle.reading.proofs.Growing.{grows_none}
 use Rattle.bench_meaning.proofs.GateLines.{input_read, gate-line}
 
 -- the names that a line declares
@@ -84,7 +86,7 @@ module _ (t a : List ℕ) where
     output_case w q =
         let y = outputs-yes s.held (add_output p.outputs w s.outputs) s' q in
         record {
-          grows = subst (Grows t a s.held) (sym y.1) (grows_none t a s.held);
+          grows = subst (Grows t a s.held) (sym y.1) (grows_none (find true t) (wire_value a) s.held);
           wired = subst HeldWired (sym y.1) wd;
           defined = tt;
           assigned = tt;

@@ -28,9 +28,11 @@ use Rattle.runs.specs.Values.{signal_value, outputs_from, storage_values, storag
 use Rattle.runs.specs.Runs.{input_count}
 use Rattle.runs.proofs.Storage.{Known, evaluate_same, outputs_known}
 use Rattle.bench.specs.Bench.{read_line, bench_lines, bench}
+use Rattle.bench_meaning.specs.GateMeaning.{wire_value}
 use Rattle.bench_meaning.specs.Operations.{operation_bit}
 use Rattle.bench_meaning.specs.TextMeaning.{GateLine, gate_in, gates, input_named, output_named, declared, Equation, Assigned, Means}
-use Rattle.bench_meaning.proofs.Growing.{wire_named, HeldWired, value, Defined, Grows, grows_none, grows_on, value_on, values_on}
+use Rattle.bench_meaning.proofs.Growing.{wire_named, HeldWired, value, Defined, Grows, value_on, values_on}
+use Rattle.reading.proofs.Growing.{grows_none, grows_on}
 use Rattle.reading.proofs.Ended.{resolved_wires, finish_yes}
 use Rattle.bench_meaning.proofs.LineMeans.{declared_by, GateDefined, LineRead, line_read}
 
@@ -74,7 +76,7 @@ module _ (t a : List ℕ) where
   joined : (l : Word) (ls : List Word) (s mid s' : State) → LineRead t a (declared_by input_named t l) (gate_in t l) (declared_by output_named t l) s mid → Reads ls mid s' → Reads (l ∷ ls) s s'
   unfolding gates declared
   joined l ls s mid s' r k = record {
-    grows = grows_on t a s.held mid.held s'.held r.grows k.grows;
+    grows = grows_on (find true t) (wire_value a) s.held mid.held s'.held r.grows k.grows;
     wired = k.wired;
     assigned =
         assigned-append (value t a s'.held) a (input_count s.held.nodes) (declared_by input_named t l) (declared input_named t ls)
@@ -87,7 +89,7 @@ module _ (t a : List ℕ) where
   lines_read : (p : Places) (ls : List Word) (s s' : State) → HeldWired s.held → each (read_line t p) ls s ≡ Ok s' → Reads ls s s'
   unfolding each gates declared
   lines_read p [] s s' wd q =
-      subst (Reads [] s) (yes_same q) (record { grows = grows_none t a s.held; wired = wd; assigned = tt; equations = tt; collects = sym (append-nil s.outputs) })
+      subst (Reads [] s) (yes_same q) (record { grows = grows_none (find true t) (wire_value a) s.held; wired = wd; assigned = tt; equations = tt; collects = sym (append-nil s.outputs) })
   lines_read p (l ∷ ls) s s' wd q =
       let m = then_yes (read_line t p l s) (each (read_line t p) ls) s' q in
       let r = line_read t a p s m.0 wd l m.1 in

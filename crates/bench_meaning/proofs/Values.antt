@@ -13,40 +13,22 @@ use Rattle.circuit.specs.Records.{is_cell_node, wires_of}
 use Rattle.cells.specs.Cells.{cell_rule}
 use Rattle.runs.specs.Values.{answer_of, values_from, storage_values}
 use Rattle.runs.specs.Runs.{input_count}
-use Rattle.runs.proofs.NodeValues.{values-append, values_snoc, length-values}
-use Rattle.runs.proofs.Storage.{values_stay}
+use Rattle.runs.proofs.WireValues.{wire_kept as kept_by, wire_new as new_by}
 use Rattle.bench_gates.specs.Gates.{cell}
 use Rattle.bench_meaning.specs.GateMeaning.{wire_value, Carries, CarryAll}
 
 module _ (a : List ℕ) where
-  storage_length : (ns : List BoolNode) → length (storage_values ns a) ≡ length ns
-  unfolding storage_values
-  storage_length ns = length-values answer_of a ns
-
-  value_kept : (ns ms : List BoolNode) (k : ℕ) → k < length ns → get_or (storage_values (ns ++ ms) a) k 0 ≡ get_or (storage_values ns a) k 0
-  unfolding storage_values
-  value_kept ns ms k h =
-      ap (λ (l : List ℕ). get_or l k 0) (values-append answer_of a ns ms 0 []) ∙ values_stay a ms (0 + input_count ns) (values_from answer_of a 0 [] ns) k (omega (arith, length-values answer_of a ns))
-
   pub wire_kept : (ns ms : List BoolNode) (x : ℕ) → x < length ns + 2 → wire_value a (ns ++ ms) x ≡ wire_value a ns x
-  unfolding wire_value
-  wire_kept ns ms zero h = refl
-  wire_kept ns ms (suc zero) h = refl
-  wire_kept ns ms (suc (suc k)) h = value_kept ns ms k (omega arith)
+  unfolding wire_value storage_values
+  wire_kept ns ms x h = kept_by answer_of a ns ms x h
 
   -- a node at the end: the next input's value, or a cell's answer on the values before it
   abbrev pub at_end : List BoolNode → BoolNode → ℕ
   at_end ns n = cond (is_cell_node n) (answer_of (storage_values ns a) n) (get_or a (input_count ns) 0)
 
-  node_last : (ns : List BoolNode) (n : BoolNode) → storage_values (ns ++ n ∷ []) a ≡ storage_values ns a ++ at_end ns n ∷ []
-  unfolding storage_values
-  node_last ns n = values_snoc answer_of a ns n
-
   pub wire_new : (ns : List BoolNode) (n : BoolNode) → wire_value a (ns ++ n ∷ []) (length ns + 2) ≡ at_end ns n
-  unfolding wire_value
-  wire_new ns n =
-      let e : length ns + 2 ≡ suc (suc (length (storage_values ns a))) = omega (arith, storage_length ns) in
-      rw e (ap (λ (l : List ℕ). get_or l (length (storage_values ns a)) 0) (node_last ns n) ∙ snoc_last (storage_values ns a) (at_end ns n))
+  unfolding wire_value storage_values
+  wire_new ns n = new_by answer_of a ns n
 
   -- ---- the answers of cells of one wire and of two
 

@@ -1,10 +1,10 @@
 // A `.names` line: its words, its rows, and the constant, alias or cell that they give.
 ghost use Rattle.std.specs.Prelude.{◌≡◌, ◌+◌, ◌≤◌, length, Some, IfOk, OnErr};
 ghost use Rattle.laws.specs.Areas.{capacity};
-ghost use Rattle.text.specs.Iterators.{words_left};
+ghost use Rattle.text.specs.Lines.{line_words};
 ghost use Rattle.names.specs.Chains.{entries, Table};
 ghost use Rattle.cover.specs.Gates.{listed, InputsFit};
-ghost use Rattle.cover.specs.Rows.{rows_left};
+ghost use Rattle.cover.specs.Rows.{rows_from};
 ghost use Rattle.reading.specs.Reading.{places_in, add_name};
 ghost use Rattle.reading.specs.Holding.{outcome, held_of, Kept, KeptForSome};
 ghost use Rattle.blif.specs.Blif.{cell_node, drivers, gate, plan, names_line};
@@ -13,11 +13,11 @@ ghost use Rattle.blif.specs.Holding.{driver_of, PlanIs};
 use circuit::records::{BoolNode, BoolWire};
 use circuit::refusals::Refusal;
 use cover::gates::{Inputs, gate_words};
-use cover::lines::Rows;
+use cover::lines::{line_words, rows_from};
 use cover::rows::parse_cover;
 use names::NameTable;
 use reading::records::{Counts, add_name, add_named, stretch_name};
-use text::words::{Word, Words};
+use text::words::Word;
 
 // The table of one input whose value is the input's.
 const BUFFER: usize = 2;
@@ -52,18 +52,19 @@ pub fn drivers(table: &NameTable, inputs: Inputs<Word>) -> Result<Inputs<usize>,
     })
 }
 
-// The words after `.names`, with the rows: 9, 4, 6, 5, 7.
-#[tactic(auto, using(crate::proofs::Plans::plan_none, crate::proofs::Plans::plan_known, crate::proofs::Plans::plan_many, crate::proofs::Plans::plan_stop, crate::proofs::Plans::plan_rows, crate::proofs::Plans::plan_made))]
-pub fn plan_gate(table: &NameTable, words: Words, rows: Rows) -> Result<Planned, Refusal>
-    requires same_text { (words.text.now ≡ table.now.text.now) × (rows.lines.text.now ≡ table.now.text.now) }
-    ensures { PlanIs table.now.text.now result (plan table.now.text.now (words_left words.entry) (rows_left rows.entry) (entries table.now.names.now table.now.count)) }
+// The words after `.names`, with the rows from `next` on: 9, 4, 6, 5, 7.
+#[tactic(auto, using(crate::proofs::Plans::plan_none, crate::proofs::Plans::plan_known, crate::proofs::Plans::plan_many, crate::proofs::Plans::plan_rows))]
+pub fn plan_gate(table: &NameTable, line: Word, next: usize) -> Result<Planned, Refusal>
+    requires line_in_bounds { line.start + line.len ≤ length table.now.text.now }
+    ensures { PlanIs table.now.text.now result (plan table.now.text.now (line_words table.now.text.now line) (rows_from table.now.text.now next) (entries table.now.names.now table.now.count)) }
 {
-    let gate = gate_words(words).ok_or(Refusal::Malformed)?;
+    let gate = gate_words(line_words(table.text, line)).ok_or(Refusal::Malformed)?;
     if table.find(gate.out).is_some() {
         return Err(Refusal::DefinedBefore);
     }
     let inputs = gate.inputs.ok_or(Refusal::WrongCount)?;
     let wires = drivers(table, inputs)?;
+    let rows = rows_from(table.text, next);
     let truth_table = parse_cover(rows, inputs.count()).ok_or(Refusal::BadRow)?;
     Ok(Planned {
         out: gate.out,
@@ -95,7 +96,7 @@ pub fn add_alias(
     })
 }
 
-// The cell of a gate.
+// The cell of a gate. By fields: a constructor would take the same five words by place.
 pub fn cell_node(p: Planned) -> BoolNode
     ensures { result ≡ cell_node p.out (listed p.wires) p.table }
 {
@@ -137,29 +138,29 @@ pub fn put_gate(
     }
 }
 
-// `.names`, with its words after the first, and the rows.
+// `.names`, with the stretch after it, and the rows from `next` on.
 #[tactic(auto, unfolding(crate::specs::Blif::names_line))]
 pub fn names_line(
-    words: Words,
-    rows: Rows,
+    text: &[u8],
+    line: Word,
+    next: usize,
     counts: Counts,
     heads: &mut [usize; 256],
     nodes: &mut [usize],
     names: &mut [usize],
 ) -> Result<Counts, Refusal>
-    requires kept { Kept words.text.now heads.old nodes.old names.old counts }
-    requires same_text { rows.lines.text.now ≡ words.text.now }
-    ensures kept_2 { IfOk result (λ c. Kept words.entry.text.now heads.new nodes.new names.new c) }
-    ensures kept_refused { OnErr result (KeptForSome words.entry.text.now heads.new nodes.new names.new) }
-    ensures counts_after { outcome (λ c. held_of nodes.new names.new c) result ≡ names_line words.entry.text.now (places_in (length nodes.old) (length names.old) 0) (words_left words.entry) (rows_left rows.entry) (held_of nodes.old names.old counts) }
+    requires kept { Kept text.now heads.old nodes.old names.old counts }
+    requires line_in_bounds { line.start + line.len ≤ length text.now }
+    ensures kept_2 { IfOk result (λ c. Kept text.now heads.new nodes.new names.new c) }
+    ensures kept_refused { OnErr result (KeptForSome text.now heads.new nodes.new names.new) }
+    ensures counts_after { outcome (λ c. held_of nodes.new names.new c) result ≡ names_line text.now (places_in (length nodes.old) (length names.old) 0) (line_words text.now line) (rows_from text.now next) (held_of nodes.old names.old counts) }
 {
-    let text = words.text;
     let table = NameTable {
         text,
         heads,
         names,
         count: counts.names,
     };
-    let p = plan_gate(&table, words, rows)?;
+    let p = plan_gate(&table, line, next)?;
     put_gate(text, p, counts, heads, nodes, names)
 }

@@ -1,15 +1,12 @@
 // The reader: a text into a circuit, or its refusal.
 ghost use Rattle.std.specs.Prelude.{false, length};
 ghost use Rattle.reading.specs.Areas.{Leaves};
-ghost use Rattle.blif.specs.Blif.{blif_lines, blif};
-ghost use Rattle.blif.specs.Holding.{blif_reads, blif_ends};
+ghost use Rattle.blif.specs.Blif.{blif};
 
-use crate::lines;
 use circuit::records::Sizes;
 use circuit::refusals::Refusal;
 use names::NameTable;
-use reading::format::{Format, Names, parse};
-use reading::records::Reading;
+use reading::format::{Names, parse};
 use text::words::Word;
 
 // The format BLIF.
@@ -21,24 +18,6 @@ impl Names for Blif {
     #[tactic(auto, unfolding(reading::specs::Reading::find))]
     fn find_wire(table: &NameTable, word: Word) -> Option<usize> {
         table.find(word)
-    }
-}
-
-impl Format for Blif {
-    ghost lines = { blif_lines };
-
-    ghost reads = { blif_reads };
-
-    ghost ends = { blif_ends };
-
-    fn read_lines(
-        text: &[u8],
-        heads: &mut [usize; 256],
-        nodes: &mut [usize],
-        names: &mut [usize],
-        outputs: &mut [usize],
-    ) -> Result<Reading, Refusal> {
-        lines::read_lines(text, heads, nodes, names, outputs)
     }
 }
 

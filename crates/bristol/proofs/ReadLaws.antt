@@ -1,16 +1,13 @@
 -- Laws of the whole reader.
 -- Assumes nothing.
-use Rattle.std.specs.Prelude.{Err}
 use Prim.Native.Nat.{ℕ, ◌+◌, ◌-◌, ◌*◌, ◌≤◌}
 use mathlib.Core.Path.{◌≡◌, sym, ap, ◌∙◌, subst}
 use mathlib.Core.List.{List, [], ◌++◌}
 use native.Mathlib.Omega.{arith}
 use lib.ListN.{length, drop, replicate}
-use borrow.Author.Tests.{eq-eqb, ne_eqb, le-leb}
+use borrow.Author.Tests.{eq-eqb, le-leb}
 use Rattle.std.proofs.lemmas.List.{drop-replicate, replicate-append-replicate}
 use Rattle.laws.specs.Areas.{up_from, capacity}
-use Rattle.circuit.specs.declared.refusals.Refusal.{Refusal}
-use Rattle.circuit.specs.declared.refusals.Refusal.TheVariants.{HeaderMismatch}
 use Rattle.circuit.specs.declared.records.Sizes.{Sizes}
 use Rattle.circuit.specs.Refusals.{Try}
 use Rattle.circuit.specs.Circuits.{Circuit}
@@ -43,19 +40,7 @@ rows_told n a w k m e ls s s' q r h =
 -- ---- the body
 
 module _ (nr or : ℕ) (h : Head) (ls : List (List ℕ)) where
-  pub body_refused : (e : Refusal) → rows nr ls (start h) ≡ Err e → body nr or h ls ≡ Err e
-  unfolding body
-  body_refused e q = rw q
-
   module _ (nodes wires : List ℕ) (k read : ℕ) (g : RowsStand (length ls) nodes wires (rows nr ls (start h)) k read) where
-    pub body_count : (read ≡ h.gates → ⊥) → body nr or h ls ≡ Err HeaderMismatch
-    unfolding body
-    body_count d = rw (g.stands.is, ne_eqb (length ls) h.gates (λ z. d (g.all ∙ z)))
-
-    pub body-outputs : (e : Refusal) → read ≡ h.gates → outputs_from or (h.wires - h.outputs) (drop (h.wires - h.outputs) wires) [] ≡ Err e → body nr or h ls ≡ Err e
-    unfolding body
-    body-outputs e d q = rw (g.stands.is, eq-eqb (length ls) h.gates (sym g.all ∙ d), q)
-
     pub body_built : (outputs : List ℕ) (m : ℕ) → read ≡ h.gates
         → OutputsStand outputs (outputs_from or (h.wires - h.outputs) (drop (h.wires - h.outputs) wires) []) m → Built nodes outputs (body nr or h ls) k m
     unfolding body

@@ -25,6 +25,10 @@ pub record Holds {A : Type 0} (enc : A → List ℕ) (w : ℕ) (a : List ℕ) (x
 abbrev pub HoldsNodes : List ℕ → List BoolNode → Type 0
 HoldsNodes a ns = Holds encode_node 9 a ns
 
+-- of any nodes, so many, that an area holds
+abbrev pub OfHeld : List ℕ → ℕ → (List BoolNode → Type 0) → Type 0
+OfHeld a n P = (ns : List BoolNode) → length ns ≡ n → HoldsNodes a ns → P ns
+
 abbrev pub HoldsOutputs : List ℕ → List Output → Type 0
 HoldsOutputs a os = Holds encode_output 5 a os
 

@@ -23,6 +23,7 @@ pub fn put_wire(outputs: &mut [usize], count: usize, w: WireNumber, slot: usize)
 }
 
 // The outputs of the wires from `from` on: how many.
+#[tactic(auto, using(crate::proofs::StoreLaws::putting_start), unfolding(laws::specs::Areas::capacity))]
 pub fn put_wires(wires: &[usize], from: usize, outputs: &mut [usize]) -> Result<usize, Refusal>
     requires { (from ≤ length wires.now) × HoldsOutputs outputs.old [] }
     ensures { OutputsAre outputs.new (outputs_from (capacity 5 (length outputs.old)) from (drop from wires.now) []) result }

@@ -11,7 +11,7 @@ use crate::outputs::put_wires;
 use crate::rows::read_rows;
 use bristol_rows::answers::Head;
 use bristol_rows::header::read_header;
-use circuit::areas::{put_node, records_in};
+use circuit::areas::{clear_all, put_node, records_in};
 use circuit::records::{BoolNode, Name, NodeNumber, Sizes, WireNumber};
 use circuit::refusals::Refusal;
 use text::bytes::is_ascii;
@@ -19,6 +19,7 @@ use text::iterators::kept_lines;
 use text::lines::KeptLines;
 
 // The inputs: node k is the input of wire k.
+#[tactic(auto, using(laws::proofs::Areas::length_up, laws::proofs::Sums::up_next, crate::proofs::StoreLaws::hold_node))]
 pub fn put_inputs(nodes: &mut [usize], count: usize)
     requires { (count * 9 ≤ length nodes.old) × HoldsNodes nodes.old [] }
     ensures { HoldsNodes nodes.new (up_from input_node 0 count) }
@@ -29,6 +30,7 @@ pub fn put_inputs(nodes: &mut [usize], count: usize)
 }
 
 // The slots of the inputs' wires: wire k is driven by node k.
+#[tactic(auto, using(laws::proofs::Sums::front_more))]
 pub fn drive_inputs(wires: &mut [usize], count: usize)
     requires { (count ≤ length wires.old) × (count < 1048577) }
     ensures { wires.new ≡ up_from input_slot 0 count ++ drop count wires.old }
@@ -39,6 +41,7 @@ pub fn drive_inputs(wires: &mut [usize], count: usize)
 }
 
 // The inputs, and the rows after them.
+#[tactic(auto, using(laws::proofs::Areas::length_up, crate::proofs::ReadLaws::rows_told), unfolding(laws::specs::Areas::capacity))]
 pub fn read_gates(
     lines: KeptLines,
     nodes: &mut [usize],
@@ -54,7 +57,7 @@ pub fn read_gates(
 }
 
 // The circuit of a header that fits the areas; `wires` has a place for each wire.
-#[tactic(auto, unfolding(crate::specs::Bristol::body))]
+#[tactic(auto, using(crate::proofs::ReadLaws::start_is, crate::proofs::ReadLaws::rows_told, crate::proofs::ReadLaws::body_built), unfolding(crate::specs::Bristol::body))]
 pub fn read_body(
     lines: KeptLines,
     head: Head,
@@ -97,7 +100,7 @@ pub fn read_clean(
 }
 
 // A header and what follows it, into areas that are zero.
-#[tactic(auto, unfolding(crate::specs::Bristol::circuit))]
+#[tactic(auto, using(crate::proofs::ReadLaws::zeros_hold), unfolding(crate::specs::Bristol::circuit, laws::specs::Areas::capacity))]
 pub fn read_circuit(
     text: &[u8],
     nodes: &mut [usize],
@@ -145,8 +148,6 @@ pub fn parse_bristol(
 ) -> Result<Sizes, Refusal>
     ensures { Leaves (bristol text.now (length nodes.old) (length outputs.old) (length wires.old)) result nodes.new outputs.new wires.new }
 {
-    nodes.fill(0);
-    outputs.fill(0);
-    wires.fill(0);
+    clear_all(nodes, outputs, wires);
     read_text(text, nodes, outputs, wires)
 }

@@ -1,11 +1,11 @@
 // What a row made, stored.
-ghost use Rattle.std.specs.Prelude.{◌≡◌, List, ℕ, ◌+◌, ◌<◌, ◌^◌, length, Ok};
+ghost use Rattle.std.specs.Prelude.{List, ℕ, ◌+◌, ◌<◌, ◌^◌, length, Ok};
 ghost use Rattle.laws.specs.Areas.{capacity};
 ghost use Rattle.circuit.specs.declared.records.BoolNode.{BoolNode};
 ghost use Rattle.circuit.specs.Records.{wire_word};
 ghost use Rattle.bristol_rows.specs.Promises.{RowFits, gate_of};
 ghost use Rattle.bristol.specs.Bristol.{drive, store_cell};
-ghost use Rattle.bristol.specs.Promises.{HoldsNodes, DriveIs, StepIs, store_of};
+ghost use Rattle.bristol.specs.Promises.{OfHeld, DriveIs, StepIs, store_of};
 
 use bristol_rows::answers::Row;
 use circuit::areas::{put_node, records_in};
@@ -33,14 +33,14 @@ pub fn store_alias(
     wire: BoolWire,
 ) -> Result<NodeNumber, Refusal>
     requires { (out.0 < length wires.old) × (wire_word wire + 1 < 2 ^ 64) }
-    ensures { (a : List ℕ) (ns : List BoolNode) → length ns ≡ next.0 → HoldsNodes a ns → StepIs a wires.new (drive out wire ns wires.old) result }
+    ensures { (a : List ℕ) → OfHeld a next.0 (λ ns. StepIs a wires.new (drive out wire ns wires.old) result) }
 {
     drive(wires, out, wire)?;
     Ok(next)
 }
 
 // A cell, which is the next node.
-#[tactic(auto, unfolding(crate::specs::Bristol::store_cell))]
+#[tactic(auto, using(crate::proofs::StoreLaws::hold_node, crate::proofs::StoreLaws::cell_once), unfolding(crate::specs::Bristol::store_cell, laws::specs::Areas::capacity))]
 pub fn store_cell(
     nodes: &mut [usize],
     wires: &mut [usize],
@@ -50,7 +50,7 @@ pub fn store_cell(
 ) -> Result<NodeNumber, Refusal>
     requires out_in_bounds { out.0 < length wires.old }
     requires first_bound { (wire_word cell.first < 2 ^ 64) × (wire_word cell.second < 2 ^ 64) }
-    ensures { (ns : List BoolNode) → length ns ≡ next.0 → HoldsNodes nodes.old ns → StepIs nodes.new wires.new (store_cell (capacity 9 (length nodes.old)) out cell ns wires.old) result }
+    ensures { OfHeld nodes.old next.0 (λ ns. StepIs nodes.new wires.new (store_cell (capacity 9 (length nodes.old)) out cell ns wires.old) result) }
 {
     if records_in(nodes.len(), 9) <= next.0 {
         return Err(Refusal::NoRoom);
@@ -69,7 +69,7 @@ pub fn store_row(
     row: Result<Row, Refusal>,
 ) -> Result<NodeNumber, Refusal>
     requires { RowFits (length wires.old) row }
-    ensures { (ns : List BoolNode) → length ns ≡ next.0 → HoldsNodes nodes.old ns → StepIs nodes.new wires.new (store_of (capacity 9 (length nodes.old)) (gate_of row) (record { nodes = ns; wires = wires.old })) result }
+    ensures { OfHeld nodes.old next.0 (λ ns. StepIs nodes.new wires.new (store_of (capacity 9 (length nodes.old)) (gate_of row) (record { nodes = ns; wires = wires.old })) result) }
 {
     match row? {
         Row::Alias { out, wire } => store_alias(wires, next, out, wire),

@@ -85,9 +85,9 @@ module _ (g w : ℕ) (b c : List ℕ) where
   unfolding group_lines groups each_number
   lines-groups is os e f = rw (e, f)
 
-  pub lines-first : (e : Refusal) → Err e ≡ group_of w (parse_each (split_whitespace b)) → group_lines g w b c ≡ Err e
+  pub lines_first : (e : Refusal) → Err e ≡ group_of w (parse_each (split_whitespace b)) → group_lines g w b c ≡ Err e
   unfolding group_lines each_number
-  lines-first e q =
+  lines_first e q =
       let z = bad_group w (parse_each (split_whitespace b)) e q in
       rw (z.0, z.1)
 

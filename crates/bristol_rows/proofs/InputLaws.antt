@@ -1,12 +1,11 @@
 -- Laws of a row's input wires, gathered word by word.
 -- Assumes nothing.
 use Rattle.std.specs.Prelude.{Err, Ok}
-use Prim.Native.Nat.{ℕ, suc, ◌+◌, ◌-◌, ◌≤◌, ◌<◌, zero-le}
+use Prim.Native.Nat.{ℕ, suc, ◌+◌, ◌-◌, ◌≤◌, ◌<◌}
 use mathlib.Core.Path.{◌≡◌, refl, sym, ap, ◌∙◌}
 use mathlib.Core.Bool.{Bool, true, false, cond}
 use mathlib.Core.List.{List, [], ◌∷◌, map}
 use mathlib.Core.Option.{Option, none, some}
-use native.Mathlib.Nat.{sub-zero}
 use native.Mathlib.Numerals.{add-one}
 use native.Mathlib.Omega.{arith}
 use lib.Dec.{eqb, ltb}
@@ -209,13 +208,7 @@ pub record Got (n : ℕ) (wires : List ℕ) (ws : List (List ℕ)) (i : ℕ) (us
   pub left : us ≡ drop i ws
   pub enough : i ≤ length ws
 
-pub got_start : (n : ℕ) (wires : List ℕ) (ws : List (List ℕ)) → Got n wires ws 0 ws no_slots
-got_start n wires ws = record { same = ap (λ (k : ℕ). add_inputs wires 0 no_slots (take k ws)) (sub-zero n); left = refl; enough = zero-le }
-
 module _ (n : ℕ) (wires : List ℕ) (ws : List (List ℕ)) (i : ℕ) (us : List (List ℕ)) (slots : Slots) (g : Got n wires ws i us slots) where
-  pub got_missing : i < n → us ≡ [] → length ws < n
-  got_missing h e = omega (arith, ap length (sym g.left ∙ e), length-drop i ws)
-
   one : i < n → (w : List ℕ) (vs : List (List ℕ)) → us ≡ w ∷ vs → (s : Slots) → s ≡ add_input wires slots i (parse_usize w)
       → add_inputs wires (i + 1) s (take (n - (i + 1)) vs) ≡ add_inputs wires i slots (take (n - i) us)
   unfolding add_inputs

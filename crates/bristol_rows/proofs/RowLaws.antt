@@ -1,12 +1,11 @@
 -- Laws of a row's words after its input wires, and of its arities.
 -- Assumes nothing.
 use Rattle.std.specs.Prelude.{Err, Ok}
-use Prim.Native.Nat.{ℕ, zero, suc, ◌+◌, ◌≤◌, ◌<◌}
+use Prim.Native.Nat.{ℕ, suc, ◌+◌, ◌≤◌, ◌<◌}
 use mathlib.Core.Path.{◌≡◌, refl, sym, ap, ap₂, ◌∙◌, subst}
 use mathlib.Core.Bool.{Bool, true, false, cond}
 use mathlib.Core.List.{List, [], ◌∷◌, map}
 use mathlib.Core.Option.{Option, none, some}
-use native.Mathlib.Numerals.{add-two}
 use native.Mathlib.Omega.{arith}
 use lib.Dec.{eqb, ltb}
 use lib.ListN.{length, get_or, take, drop, length-drop}
@@ -17,7 +16,6 @@ use Rattle.circuit.specs.declared.refusals.Refusal.TheVariants.{NoDriver, WrongC
 use Rattle.circuit.specs.declared.records.WireNumber.{WireNumber}
 use Rattle.circuit.specs.declared.records.BoolWire.{BoolWire}
 use Rattle.circuit.specs.Refusals.{Try, and_then, need}
-use Rattle.circuit.specs.Records.{wire_of, wire_word}
 use Rattle.text.specs.Numbers.{parse_usize, parse_each, and_then as then}
 use Rattle.bristol_rows.specs.declared.answers.Slots.{Slots}
 use Rattle.bristol_rows.specs.declared.answers.Row.{Row}
@@ -30,36 +28,6 @@ use Rattle.bristol_rows.proofs.InputLaws.{inputs_invalid, inputs-slots, inputs_v
 
 pub refused : (m : ℕ) (x : Try Gate) (e : Refusal) → x ≡ Err e → RowIs m x (Err e)
 refused m x e h = record { is = sym h; fits = tt }
-
--- ---- slots
-
-word_of : (k : ℕ) → wire_word (wire_of k) ≡ k
-word_of zero = refl
-word_of (suc zero) = refl
-word_of (suc (suc k)) = add-two k
-
--- ---- the words after the input wires
-
-module _ (ws : List (List ℕ)) (n : ℕ) (slots : Slots) (k : ℕ) where
-  pub end_none : ws ≡ [] → RowIs k (end_by ws n slots k) (Err Malformed)
-  unfolding end_by
-  end_none e = record { is = rw e; fits = tt }
-
-  module _ (w : List ℕ) (us : List (List ℕ)) (e : ws ≡ w ∷ us) where
-    pub end_one : us ≡ [] → RowIs k (end_by ws n slots k) (Err Malformed)
-    unfolding end_by
-    end_one f = record { is = rw (e, f); fits = tt }
-
-    module _ (op : List ℕ) (vs : List (List ℕ)) (f : us ≡ op ∷ vs) where
-      pub end_more : (v : List ℕ) (xs : List (List ℕ)) → vs ≡ v ∷ xs → RowIs k (end_by ws n slots k) (Err Malformed)
-      unfolding end_by
-      end_more v xs g =
-          let d : suc (suc (suc (length xs))) ≡ 2 → ⊥ = λ z. omega arith in
-          record { is = rw (e, f, g, ne_eqb (suc (suc (suc (length xs)))) 2 d); fits = tt }
-
-      pub end_two : vs ≡ [] → (r : Try Row) → RowIs k (output_by w op n slots k) r → RowIs k (end_by ws n slots k) r
-      unfolding end_by
-      end_two g r i = record { is = i.is ∙ sym (rw (e, f, g)); fits = i.fits }
 
 -- ---- the slots gathered from the words are those of the definition
 

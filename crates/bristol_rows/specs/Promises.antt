@@ -14,8 +14,6 @@ use Rattle.bristol_rows.specs.declared.answers.Widths.{Widths}
 use Rattle.bristol_rows.specs.declared.answers.Counts.{Counts}
 use Rattle.bristol_rows.specs.declared.answers.Head.{Head}
 use Rattle.bristol_rows.specs.declared.answers.Slots.{Slots}
-use Rattle.bristol_rows.specs.declared.answers.Made.{Made}
-use Rattle.bristol_rows.specs.declared.answers.Made.TheVariants.{Alias, Table}
 use Rattle.bristol_rows.specs.declared.answers.Row.{Row}
 use Rattle.bristol_rows.specs.declared.answers.Row.TheVariants.{Alias as RowAlias, Cell as RowCell}
 use Rattle.bristol_rows.specs.Numbers.{or_refuse, number}
@@ -83,10 +81,10 @@ HeaderIs ls rows (Ok h) = HeaderAt ls rows h
 
 -- ---- the operation
 
-abbrev pub made_of : Try Made → Try Op
+abbrev pub made_of : Try (Answer ℕ) → Try Op
 made_of (Err e) = Err e
-made_of (Ok Alias) = Ok same
-made_of (Ok (Table t)) = Ok (table t)
+made_of (Ok None) = Ok same
+made_of (Ok (Some t)) = Ok (table t)
 
 -- ---- the input wires
 

@@ -33,11 +33,11 @@ pub struct Slots {
     pub invalid: bool,
 }
 
-// What an operation makes: its input, or a cell with a table.
+// How many input wires a row has, and what they hold.
 #[derive(Clone, Copy)]
-pub enum Made {
-    Alias,
-    Table(usize),
+pub struct Inputs {
+    pub count: usize,
+    pub slots: Slots,
 }
 
 // What a row makes of its output wire.

@@ -22,6 +22,7 @@ pub fn add_to(sum: Option<usize>, n: usize, limit: usize) -> Option<usize>
 }
 
 // The numbers of a line's rest: how many, and their sum.
+#[tactic(auto, using(crate::proofs::WordLaws::words_few, crate::proofs::NumberLaws::each_none, crate::proofs::NumberLaws::each_value, crate::proofs::HeaderLineLaws::widths_end, crate::proofs::HeaderLineLaws::widths_on))]
 pub fn read_widths(words: LineWords, limit: usize) -> Result<Widths, Refusal>
     ensures { result ≡ widths_of limit 0 (Some 0) (parse_each (words_left words.entry)) }
 {
@@ -35,6 +36,7 @@ pub fn read_widths(words: LineWords, limit: usize) -> Result<Widths, Refusal>
 }
 
 // A group line: the number of groups, and their widths: their sum, if they are so many and it is at most the limit.
+#[tactic(auto, using(crate::proofs::NumberLaws::each_none, crate::proofs::HeaderLineLaws::group_none))]
 pub fn grouped_wire_count(line: &[u8], limit: usize) -> Result<Option<usize>, Refusal>
     ensures { result ≡ group_of limit (parse_each (split_whitespace line.now)) }
 {
@@ -52,6 +54,7 @@ pub fn grouped_wire_count(line: &[u8], limit: usize) -> Result<Option<usize>, Re
 }
 
 // The first line: two numbers. Words after them are malformed, but one that is no number is told first.
+#[tactic(auto, using(crate::proofs::HeaderLineLaws::gates_first))]
 pub fn read_counts(line: &[u8]) -> Result<Counts, Refusal>
     ensures { result ≡ counts_of (parse_each (split_whitespace line.now)) }
 {
@@ -66,6 +69,7 @@ pub fn read_counts(line: &[u8]) -> Result<Counts, Refusal>
 }
 
 // The group lines, once the counts are known.
+#[tactic(auto, using(crate::proofs::HeaderLaws::lines_first, crate::proofs::HeaderLaws::lines_second, crate::proofs::HeaderLaws::no_first))]
 pub fn read_groups(b: &[u8], c: &[u8], counts: Counts) -> Result<Head, Refusal>
     ensures { HeadIs (group_lines counts.gates counts.wires b.now c.now) result }
 {
@@ -84,6 +88,7 @@ pub fn read_groups(b: &[u8], c: &[u8], counts: Counts) -> Result<Head, Refusal>
 }
 
 // The header: the first three lines of those that are left.
+#[tactic(auto, using(crate::proofs::HeaderLaws::header_none, crate::proofs::HeaderLaws::header_one, crate::proofs::HeaderLaws::header_two))]
 pub fn read_header(lines: &mut KeptLines) -> Result<Head, Refusal>
     ensures { HeaderIs (kept_left lines.old) (kept_left lines.new) result }
 {

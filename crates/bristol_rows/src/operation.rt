@@ -3,7 +3,6 @@ ghost use Rattle.std.specs.Prelude.{◌≡◌};
 ghost use Rattle.bristol_rows.specs.Operation.{is_alias, inverts, two_input_table, truth_table, operation};
 ghost use Rattle.bristol_rows.specs.Promises.{made_of};
 
-use crate::answers::Made;
 use circuit::refusals::Refusal;
 use text::bytes::is_named;
 
@@ -24,7 +23,7 @@ pub fn is_inverter(op: &[u8]) -> bool
 }
 
 // The names may be in any case, so they are compared one after the other, not by a `match` on the bytes.
-// An enum shared with bench_gates would stand in `circuit`, which can't compare names: each reader would still have these six tests.
+// bench_gates has the six as an enum, since it also chains them: only this table of names is common, and a crate below both for it alone would be longer.
 #[tactic(auto, unfolding(crate::specs::Operation::two_input_table))]
 pub fn two_input_table(op: &[u8]) -> Result<usize, Refusal>
     ensures { result ≡ two_input_table op.now }
@@ -58,16 +57,16 @@ pub fn bristol_truth_table(op: &[u8], inputs: usize) -> Result<usize, Refusal>
     }
 }
 
-// The operation of a row with so many inputs.
+// The operation of a row with so many inputs: the table of its cell, or none where the output wire is another name of the input.
 #[tactic(auto, unfolding(crate::specs::Operation::operation))]
-pub fn read_operation(op: &[u8], inputs: usize) -> Result<Made, Refusal>
+pub fn read_operation(op: &[u8], inputs: usize) -> Result<Option<usize>, Refusal>
     ensures { made_of result ≡ operation op.now inputs }
 {
     if !is_alias(op) {
-        return Ok(Made::Table(bristol_truth_table(op, inputs)?));
+        return Ok(Some(bristol_truth_table(op, inputs)?));
     }
     if inputs == 1 {
-        Ok(Made::Alias)
+        Ok(None)
     } else {
         Err(Refusal::WrongCount)
     }

@@ -5,10 +5,10 @@ ghost use Rattle.text.specs.Words.{split_whitespace};
 ghost use Rattle.text.specs.Numbers.{number_of};
 ghost use Rattle.bristol_rows.specs.Words.{words_left};
 ghost use Rattle.bristol_rows.specs.Row.{cell_node, row};
-ghost use Rattle.bristol_rows.specs.Promises.{add_slot, add_input, InputsAre, drivers_of, CellIs, RowIs, gate_by, output_by, end_by, wires_by, invalid_arity, first_arity, wrong_outputs};
+ghost use Rattle.bristol_rows.specs.Promises.{add_slot, add_input, InputsAre, drivers_of, CellIs, RowIs, gate_by, output_by, end_by, wires_by, wrong_outputs};
 
-use crate::answers::{Made, Row, Slots};
-use crate::numbers::read_number;
+use crate::answers::{Inputs, Row, Slots};
+use crate::numbers::{next_arity, read_number};
 use crate::operation::read_operation;
 use crate::words::{LineWords, count_words, split_whitespace};
 use circuit::records::{BoolNode, BoolWire, Name, WireNumber};
@@ -60,6 +60,7 @@ impl Slots {
 }
 
 // The next n words as input wires; none if there are fewer.
+#[tactic(auto, using(crate::proofs::InputLaws::got_end))]
 pub fn read_inputs(words: &mut LineWords, n: usize, wires: &[usize]) -> Option<Slots>
     ensures { InputsAre n wires.now (words_left words.old) (words_left words.new) result }
 {
@@ -77,118 +78,79 @@ pub fn slot_wire(s: usize) -> BoolWire
     BoolWire::from(s.saturating_sub(1))
 }
 
-// The cell of a row with one or two inputs.
-pub fn cell_node(out: WireNumber, inputs: usize, table: usize, slots: Slots) -> BoolNode
-    ensures { CellIs (cell_node out table (drivers_of inputs slots)) result }
+// The cell of a row with one or two inputs. `circuit` makes the node of an input alone: a cell is named in each format's own way.
+pub fn cell_node(out: WireNumber, table: usize, inputs: Inputs) -> BoolNode
+    ensures { CellIs (cell_node out table (drivers_of inputs.count inputs.slots)) result }
 {
-    let (count, second) = if inputs == 1 {
+    let (count, second) = if inputs.count == 1 {
         (1, BoolWire::Const(false))
     } else {
-        (2, slot_wire(slots.second))
+        (2, slot_wire(inputs.slots.second))
     };
     BoolNode {
         kind: 2,
         count,
         table,
         name: Name::Number(out),
-        first: slot_wire(slots.first),
+        first: slot_wire(inputs.slots.first),
         second,
     }
 }
 
 // The operation of a row whose wires are in order.
 #[tactic(auto, unfolding(crate::specs::Promises::gate_by))]
-pub fn row_gate(
-    op: &[u8],
-    inputs: usize,
-    slots: Slots,
-    out: WireNumber,
-    wires: usize,
-) -> Result<Row, Refusal>
+pub fn row_gate(op: &[u8], inputs: Inputs, out: WireNumber, wires: usize) -> Result<Row, Refusal>
     requires { out.0 < wires }
-    ensures { RowIs wires (gate_by op.now inputs slots out) result }
+    ensures { RowIs wires (gate_by op.now inputs.count inputs.slots out) result }
 {
-    Ok(match read_operation(op, inputs)? {
-        Made::Alias => Row::Alias {
+    Ok(match read_operation(op, inputs.count)? {
+        None => Row::Alias {
             out,
-            wire: slot_wire(slots.first),
+            wire: slot_wire(inputs.slots.first),
         },
-        Made::Table(table) => Row::Cell {
+        Some(table) => Row::Cell {
             out,
-            node: cell_node(out, inputs, table, slots),
+            node: cell_node(out, table, inputs),
         },
     })
 }
 
 // The output wire's word and the operation's.
 #[tactic(auto, unfolding(crate::specs::Promises::output_by))]
-pub fn row_output(
-    wire: &[u8],
-    op: &[u8],
-    inputs: usize,
-    slots: Slots,
-    wires: usize,
-) -> Result<Row, Refusal>
-    ensures { RowIs wires (output_by wire.now op.now inputs slots wires) result }
+pub fn row_output(wire: &[u8], op: &[u8], inputs: Inputs, wires: usize) -> Result<Row, Refusal>
+    ensures { RowIs wires (output_by wire.now op.now inputs.count inputs.slots wires) result }
 {
-    if slots.invalid {
+    if inputs.slots.invalid {
         return Err(Refusal::NotNumber);
     }
     let out = read_number(wire)?;
     if wires <= out {
         return Err(Refusal::OutputOutside);
     }
-    if slots.undriven {
+    if inputs.slots.undriven {
         return Err(Refusal::NoDriver);
     }
-    row_gate(op, inputs, slots, WireNumber(out), wires)
+    row_gate(op, inputs, WireNumber(out), wires)
 }
 
 // The words after the input wires: two.
 #[tactic(auto, unfolding(crate::specs::Promises::end_by))]
-pub fn row_end(
-    mut words: LineWords,
-    inputs: usize,
-    slots: Slots,
-    wires: usize,
-) -> Result<Row, Refusal>
-    ensures { RowIs wires (end_by (words_left words.entry) inputs slots wires) result }
+pub fn row_end(mut words: LineWords, inputs: Inputs, wires: usize) -> Result<Row, Refusal>
+    ensures { RowIs wires (end_by (words_left words.entry) inputs.count inputs.slots wires) result }
 {
     let (Some(wire), Some(op), None) = (words.next(), words.next(), words.next()) else {
         return Err(Refusal::Malformed);
     };
-    row_output(wire, op, inputs, slots, wires)
+    row_output(wire, op, inputs, wires)
 }
 
 // The words after the arities, of a row with one output.
-pub fn row_wires(mut words: LineWords, inputs: usize, wires: &[usize]) -> Result<Row, Refusal>
-    ensures { RowIs (length wires.now) (wires_by wires.now inputs (words_left words.entry)) result }
+#[tactic(auto, using(crate::proofs::RowLaws::wires_end))]
+pub fn row_wires(mut words: LineWords, count: usize, wires: &[usize]) -> Result<Row, Refusal>
+    ensures { RowIs (length wires.now) (wires_by wires.now count (words_left words.entry)) result }
 {
-    let slots = read_inputs(&mut words, inputs, wires).ok_or(Refusal::Malformed)?;
-    row_end(words, inputs, slots, wires.len())
-}
-
-// What an arity that is no number is refused with: malformed all the same where fewer words than `least` come after it.
-pub fn arity_invalid(words: LineWords, least: usize) -> Refusal
-    ensures { result ≡ invalid_arity least (words_left words.entry) }
-{
-    if count_words(words) < least {
-        Refusal::Malformed
-    } else {
-        Refusal::NotNumber
-    }
-}
-
-// The next word as an arity. Inlined, so that the words stay in registers: reading takes a seventh less time.
-#[inline(always)]
-pub fn next_arity(words: &mut LineWords, least: usize) -> Result<usize, Refusal>
-    ensures { (result ≡ first_arity least (words_left words.old)) × (words_left words.new ≡ drop 1 (words_left words.old)) }
-{
-    let word = words.next().ok_or(Refusal::Malformed)?;
-    match parse_usize(word) {
-        Some(n) => Ok(n),
-        None => Err(arity_invalid(*words, least)),
-    }
+    let slots = read_inputs(&mut words, count, wires).ok_or(Refusal::Malformed)?;
+    row_end(words, Inputs { count, slots }, wires.len())
 }
 
 // What another number of outputs than one is refused with: malformed all the same where words are missing or the width is wrong.

@@ -32,7 +32,7 @@ pub fn table_entry(table: usize, j: usize) -> usize
     (table >> j) & 1
 }
 
-// The table with entry j set to a bit.
+// The table with entry j set to a bit. A number and no `bool`, as tables, assignments and the rule's index have it: each caller would turn it back.
 pub fn set_table_entry(table: usize, j: usize, bit: usize) -> usize
     requires { (j < 64) × (bit < 2) }
     ensures { result ≡ set_entry table j bit }

@@ -133,14 +133,6 @@ module _ (a : List ℕ) (m i : ℕ) (h : i < m) (n : BoolNode) (e : n ≡ node_a
 
 -- ---- the checks over the areas
 
-pub not-whole_nodes : (nodes outputs : List ℕ) → (length nodes % 9 ≡ 0 → ⊥) → whole nodes outputs ≡ false
-unfolding whole
-not-whole_nodes nodes outputs e = rw (ne_eqb (length nodes % 9) 0 e)
-
-pub not-whole-outputs : (nodes outputs : List ℕ) → length nodes % 9 ≡ 0 → (length outputs % 5 ≡ 0 → ⊥) → whole nodes outputs ≡ false
-unfolding whole
-not-whole-outputs nodes outputs n e = rw (eq-eqb (length nodes % 9) 0 n, ne_eqb (length outputs % 5) 0 e)
-
 pub is_whole : (nodes outputs : List ℕ) → length nodes % 9 ≡ 0 → length outputs % 5 ≡ 0 → whole nodes outputs ≡ true
 unfolding whole
 is_whole nodes outputs n o = rw (eq-eqb (length nodes % 9) 0 n, eq-eqb (length outputs % 5) 0 o)

@@ -26,22 +26,17 @@ wire_of_node zero p q = absurd (p refl)
 wire_of_node (suc zero) p q = absurd (q refl)
 wire_of_node (suc (suc k)) p q = ap (λ (n : ℕ). Node (record { 0 = n })) (omega arith)
 
-pub name_from-number : (t a b c : ℕ) → (t ≡ 1 → ⊥) → (t ≡ 2 → ⊥) → name_from t a b c ≡ Number (record { 0 = a })
-name_from-number zero a b c p q = refl
-name_from-number (suc zero) a b c p q = absurd (p refl)
-name_from-number (suc (suc zero)) a b c p q = absurd (q refl)
-name_from-number (suc (suc (suc t))) a b c p q = refl
-
--- a wire comes back from its word, a name from its four
+-- a wire comes back from its word
 pub wire_back : (w : BoolWire) → wire_of (wire_word w) ≡ w
 wire_back (Const true) = refl
 wire_back (Const false) = refl
 wire_back (Node n) = ap wire_of (add-two n.0)
 
-pub name_back : (n : Name) → name_from (get_or (name_words n) 0 0) (get_or (name_words n) 1 0) (get_or (name_words n) 2 0) (get_or (name_words n) 3 0) ≡ n
-name_back (Stretch s l) = refl
-name_back (Step s l k) = refl
-name_back (Number w) = refl
+-- a word comes back from its wire
+pub wire_word_back : (k : ℕ) → wire_word (wire_of k) ≡ k
+wire_word_back zero = refl
+wire_word_back (suc zero) = refl
+wire_word_back (suc (suc k)) = omega arith
 
 -- ---- the two ways of a node's code
 
@@ -85,10 +80,6 @@ node_wide n = go n.name
     go (Step s l m) = refl
     go (Number w) = refl
 
--- node i of a circuit's area
-pub node_of_area : (ns : List BoolNode) (rest : List ℕ) (d : BoolNode) (i : ℕ) → i < length ns → node_at (encodes encode_node ns ++ rest) i ≡ get_or ns i d
-node_of_area ns rest d i h = record-at encode_node 9 node_wide node_from node_back ns rest d i h
-
 -- ---- the same of an output
 
 pub output_list : (o : Output) (w : List ℕ) (f : ℕ) → w ≡ name_words o.name → f ≡ wire_word o.wire
@@ -130,14 +121,6 @@ module _ (a b : List ℕ) (m : ℕ) (x : BoolNode) (put : b ≡ stored a (m * 9)
 
   pub next_nodes_clean : b ≡ encodes encode_node (nodes_of b (m + 1)) ++ replicate (length b - (m + 1) * 9) 0
   next_nodes_clean = more_clean encode_node 9 node_wide node_from node_back no_node a b m x put same clean
-
-module _ (a b : List ℕ) (m : ℕ) (x : Output) (put : b ≡ stored a (m * 5) (encode_output x)) (same : length b ≡ length a)
-    (clean : a ≡ encodes encode_output (outputs_of a m) ++ replicate (length a - m * 5) 0) where
-  pub next-outputs : outputs_of b (m + 1) ≡ outputs_of a m ++ (x ∷ [])
-  next-outputs = more_list encode_output 5 output_wide output_from output_back no_output a b m x put same clean
-
-  pub next-outputs_clean : b ≡ encodes encode_output (outputs_of b (m + 1)) ++ replicate (length b - (m + 1) * 5) 0
-  next-outputs_clean = more_clean encode_output 5 output_wide output_from output_back no_output a b m x put same clean
 
 pub length_nodes : (a : List ℕ) (m : ℕ) → length (nodes_of a m) ≡ m
 length_nodes a m = length_up (node_at a) 0 m

@@ -36,9 +36,9 @@ Try A = Result A Refusal
 abbrev pub Checked : Type 0
 Checked = Try (Unit {0})
 
--- the number of a check's answer
-abbrev pub checked_number : Checked → ℕ
-checked_number (Ok u) = 0
+-- the number of an answer: "A refusal returns its number, any other result 0"
+abbrev pub checked_number : {A : Type 0} → Try A → ℕ
+checked_number (Ok a) = 0
 checked_number (Err e) = number_of e
 
 -- a check that refuses where a test holds

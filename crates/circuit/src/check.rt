@@ -86,7 +86,7 @@ pub fn some_broken(nodes: Nodes) -> bool
     (0..nodes.count).any(|i| node_broken(nodes.at(i), nodes.count))
 }
 
-// The areas hold whole records.
+// The areas hold whole records. Nodes and outputs come as two slices here and in what calls this: so the C interface lends them.
 pub fn are_whole(nodes: &[usize], outputs: &[usize]) -> bool
     ensures { result ≡ whole nodes.now outputs.now }
 {

@@ -1,6 +1,6 @@
 // The records of a lent area: nodes of nine words, outputs of five.
 ghost use Rattle.std.specs.Prelude.{◌≡◌, ◌*◌, ◌/◌, ◌<◌, ◌≤◌, length};
-ghost use Rattle.circuit.specs.Records.{node_at, output_at, output_wire};
+ghost use Rattle.circuit.specs.Records.{node_at, output_at, output_wire, is_cell_node};
 
 use crate::records::{BoolNode, BoolWire, Name, Output};
 
@@ -49,6 +49,15 @@ impl<'a> Records<'a, 9> {
             first: BoolWire::from(self.words[b + 7]),
             second: BoolWire::from(self.words[b + 8]),
         }
+    }
+
+    // Node i is a cell.
+    #[tactic(auto, unfolding(crate::specs::Records::is_cell_node))]
+    pub fn is_cell(self, i: usize) -> bool
+        requires { i < self.count }
+        ensures { result ≡ is_cell_node (node_at self.entry.words.now i) }
+    {
+        self.words[i * 9] == 2
     }
 }
 

@@ -125,7 +125,7 @@ impl From<[usize; 4]> for Name {
     }
 }
 
-// A node as nine words.
+// A node as nine words. No `From`, which asks nothing: the wires' words have to fit.
 pub fn node_words(n: BoolNode) -> [usize; 9]
     requires { (wire_word n.first < 2 ^ 64) × (wire_word n.second < 2 ^ 64) }
     ensures { result ≡ encode_node n }
@@ -144,7 +144,7 @@ pub fn node_words(n: BoolNode) -> [usize; 9]
     ]
 }
 
-// An output as five words.
+// An output as five words. No `From`, as above.
 pub fn output_words(o: Output) -> [usize; 5]
     requires { wire_word o.wire < 2 ^ 64 }
     ensures { result ≡ encode_output o }
@@ -160,7 +160,7 @@ pub fn wire_count(n: BoolNode) -> usize
     if n.kind == 2 { n.count.min(2) } else { 0 }
 }
 
-// Wire k of a node's wires.
+// Wire k of a node's wires. By number, since a node has its wires in two fields, as 01's record does.
 pub fn wire_at(n: BoolNode, k: usize) -> BoolWire
     requires { k < length (wires_of n) }
     ensures { result ≡ get_or (wires_of n) k no_wire }

@@ -3,7 +3,7 @@ ghost use Rattle.std.specs.Prelude.{◌≡◌, ◌+◌, ◌≤◌, ◌<◌, leng
 ghost use Rattle.text.specs.Lines.{line_words};
 ghost use Rattle.text.specs.Iterators.{words_left};
 ghost use Rattle.cover.specs.Directives.{dotted};
-ghost use Rattle.cover.specs.Rows.{rows_left, GivesRow, DirectiveIs};
+ghost use Rattle.cover.specs.Rows.{rows_from, rows_left, GivesRow, DirectiveIs};
 
 use crate::directives::{Directive, directive_of};
 use text::bytes::skip_to;
@@ -34,9 +34,9 @@ pub fn line_words(text: &[u8], line: Word) -> Words
     words_between(text, line.start, line.start + line.len)
 }
 
-// A line with `.` first: its directive, and the words after it. `None` for another line.
+// A line with `.` first: its directive, and the stretch after its first word. `None` for another line.
 #[tactic(auto, unfolding(crate::specs::Directives::directive_of, crate::specs::Directives::directive, laws::specs::Stretches::same_bytes))]
-pub fn directive_line(text: &[u8], line: Word) -> Option<(Directive, Words)>
+pub fn directive_line(text: &[u8], line: Word) -> Option<(Directive, Word)>
     requires { (line.start < length text.now) × (line.start + line.len ≤ length text.now) }
     ensures { DirectiveIs text.now line result }
 {
@@ -48,7 +48,17 @@ pub fn directive_line(text: &[u8], line: Word) -> Option<(Directive, Words)>
         Some(word) => directive_of(word.bytes(text)),
         None => Directive::Other,
     };
-    Some((directive, words))
+    Some((directive, Word::between(words.at, words.end)))
+}
+
+// The rows of a text from a place on.
+pub fn rows_from(text: &[u8], at: usize) -> Rows
+    ensures places { (result.lines.text.now ≡ text.now) × (result.lines.at ≡ at) }
+    ensures all { rows_left result ≡ rows_from text.now at }
+{
+    Rows {
+        lines: Lines { text, at },
+    }
 }
 
 impl<'a> Iterator for Rows<'a> {

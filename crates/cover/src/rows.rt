@@ -81,7 +81,7 @@ pub fn pattern_matches(pattern: &[u8], j: usize) -> bool
         .all(|(i, &b)| byte_fits(b, table_entry(j, i)))
 }
 
-// How many entries a table has.
+// How many entries a table has. That inputs are below 7 stands in a clause here and below: as a type it would be made of a count and taken apart again at each.
 pub fn entry_count(inputs: usize) -> usize
     requires { inputs < 7 }
     ensures { (result ≡ entry_count inputs) × (0 < result) × (result ≤ 64) }

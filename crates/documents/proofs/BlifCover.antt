@@ -18,7 +18,8 @@ use Rattle.laws.specs.Bits.{set_bit}
 use Rattle.laws.specs.Lists.{some}
 use Rattle.laws.specs.Stretches.{stretch, All}
 use Rattle.laws.proofs.Bits.{bit-set_same, bit-set_other}
-use Rattle.laws.proofs.Rows.{or_cases, one_bit, zero_bit, ones_bit}
+use Rattle.std.proofs.lemmas.Bool.{or_cases}
+use Rattle.laws.proofs.Rows.{one_bit, zero_bit, ones_bit}
 use Rattle.laws.proofs.Stretches.{length-stretch}
 use Rattle.cells.specs.Cells.{entry, index_from}
 use Rattle.text.specs.Words.{bytes_of}

@@ -35,7 +35,9 @@ use Rattle.blif.specs.Blif.{drivers, input_names, cell_node, gate, names_line}
 use Rattle.blif.proofs.Accepted.{names-none, names-yes}
 use Rattle.documents.specs.BlifDocument.{gate_inputs, gate_output, IsCover, cover_value, Equation, Assigned}
 use Rattle.documents.proofs.BlifCover.{Bits, Inside, row_bytes, Covers, cover_means}
-use Rattle.documents.proofs.BlifValues.{values, wire_value, wire_bit, wire_kept, wire_new, value, Known, Grows, grows_none, grows_on, known_on, value_at, value_kept, values-kept}
+use Rattle.documents.proofs.BlifValues.{values, wire_value, wire_bit, value, Known, Grows, value_at, value_kept, values_kept}
+use Rattle.runs.proofs.WireValues.{wire_kept, wire_new}
+use Rattle.reading.proofs.Growing.{grows_none, grows_on, known_on, all_known_on}
 
 -- ---- what a record more leaves
 
@@ -79,10 +81,10 @@ module _ (t a : List ℕ) where
       let l : length (h.nodes ++ (n ∷ [])) ≡ length h.nodes + 1 = length-append h.nodes (n ∷ []) in
       subst (λ (y : Held). Added h y (bytes_of t w) (at_end h n) × (y.nodes ≡ h.nodes ++ (n ∷ []))) (named_made p w n h h' q) (
         record {
-          grows = record { names = λ name y s. lookup-kept t (entry_for w x) h.names name y new s; wires = λ y k. wire_kept a h.nodes n y k; more = omega (arith, l) };
+          grows = record { names = λ name y s. lookup-kept t (entry_for w x) h.names name y new s; wires = λ y k. wire_kept entry_of a h.nodes (n ∷ []) y k; more = omega (arith, l) };
           wired = (omega (arith, l), wired_more (length h.nodes) (length (h.nodes ++ (n ∷ []))) (omega (arith, l)) h.names wd);
           known = (x, lookup_new t (entry_for w x) h.names);
-          is = value_at t a r (bytes_of t w) x (lookup_new t (entry_for w x) h.names) ∙ wire_new a h.nodes n;
+          is = value_at t a r (bytes_of t w) x (lookup_new t (entry_for w x) h.names) ∙ wire_new entry_of a h.nodes n;
         },
         refl,
       )
@@ -100,7 +102,7 @@ module _ (t a : List ℕ) where
   unfolding each
   inputs_read p [] h h' wd q =
       subst (λ (x : Held). InputsRead h x []) (yes_same q)
-      (record { grows = grows_none t a h; wired = wd; known = tt; assigned = tt; counted = sym (add-zero (input_count h.nodes)) })
+      (record { grows = grows_none (lookup t) (wire_value a) h; wired = wd; known = tt; assigned = tt; counted = sym (add-zero (input_count h.nodes)) })
   inputs_read p (w ∷ ws) h h' wd q =
       let s = then_yes (add_input false t p w h) (each (add_input false t p) ws) h' q in
       let u = undefined_yes (find false t w h.names) (add_named p w (input_node w) h) s.0 (unfold add_input in s.1) in
@@ -112,9 +114,9 @@ module _ (t a : List ℕ) where
           let c : input_count mid.nodes ≡ input_count h.nodes + 1 = ap input_count e ∙ count_append h.nodes (input_node w ∷ []) ∙ unfold input_count is_cell_node in refl in
           let f : input_count mid.nodes ≡ suc (input_count h.nodes) = omega (arith, c) in
           record {
-            grows = grows_on t a h mid h' d.grows r.grows;
+            grows = grows_on (lookup t) (wire_value a) h mid h' d.grows r.grows;
             wired = r.wired;
-            known = (known_on t a mid h' (bytes_of t w) r.grows d.known, r.known);
+            known = (known_on (lookup t) (wire_value a) mid h' r.grows (bytes_of t w) d.known, r.known);
             assigned = (
               value_kept t a mid h' (bytes_of t w) d.wired r.grows d.known ∙ d.is ∙ unfold is_cell_node in refl,
               subst (λ (k : ℕ). Assigned (value t a h') a k (map (bytes_of t) ws)) f r.assigned,
@@ -223,7 +225,7 @@ module _ (t a : List ℕ) where
   equation_on h h' [] rows wd g k e = tt
   equation_on h h' (s ∷ ss) rows wd g k e =
       λ v ps hv is.
-      value_kept t a h h' (gate_output s ss) wd g k.0 ∙ e v ps hv is ∙ ap (cover_value v ps) (sym (values-kept t a h h' (gate_inputs s ss) wd g k.1))
+      value_kept t a h h' (gate_output s ss) wd g k.0 ∙ e v ps hv is ∙ ap (cover_value v ps) (sym (values_kept t a h h' (gate_inputs s ss) wd g k.1))
 
   value_bit : Bits a → (h : Held) (name : List ℕ) → value t a h name < 2
   value_bit ha h name = go (lookup t name h.names)
@@ -265,20 +267,16 @@ module _ (t a : List ℕ) where
           g.added.is
           ∙ ap₂ (λ (k : ℕ) (us : List ℕ). entry k (index_from 0 us)) (sym e) dr.are
           ∙ c.means vs l (value_bits ha h names)
-          ∙ ap (cover_value v ps) (sym (values-kept t a h h' names wd g.added.grows dr.known))
+          ∙ ap (cover_value v ps) (sym (values_kept t a h h' names wd g.added.grows dr.known))
         where
           same : (x : ℕ) → Some x ≡ Some table → x ≡ table
           same x r = cc
-
-      known_all : (ns : List (List ℕ)) → All (Known t a h) ns → All (Known t a h') ns
-      known_all [] k = tt
-      known_all (s ∷ ss) k = (known_on t a h h' s g.added.grows k.0, known_all ss k.1)
 
       gate_made : GateRead h h' (map (bytes_of t) (w ∷ ws)) (row_bytes t rows)
       gate_made = record {
         grows = g.added.grows;
         wired = g.added.wired;
-        known = rw (inputs_are w ws, output_is w ws) (g.added.known, known_all names dr.known);
+        known = rw (inputs_are w ws, output_is w ws) (g.added.known, all_known_on (lookup t) (wire_value a) h h' g.added.grows names dr.known);
         equation = rw (inputs_are w ws, output_is w ws, length-map (input_names w ws) (bytes_of t)) holds;
         counted = g.counted;
       }

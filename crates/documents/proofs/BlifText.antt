@@ -38,7 +38,8 @@ use Rattle.blif.proofs.Accepted.{line_yes, text_yes}
 use Rattle.documents.specs.BlifDocument.{words_after, is_line_of, declared, starts_with_dot, cover_after, LogicGate, gates, Equation, Assigned, Means}
 use Rattle.documents.proofs.BlifCover.{Bits, row_bytes}
 use Rattle.documents.proofs.BlifLines.{LineOk, joined_bytes, joined_ok, no_directive, dot_is, words_are, is_inputs, is_outputs, is_names, inputs_line, outputs_line, names-line, rows_are, rows_inside}
-use Rattle.documents.proofs.BlifValues.{values, value, Known, Grows, grows_none, grows_on, value_kept}
+use Rattle.documents.proofs.BlifValues.{values, wire_value, value, Known, Grows, value_kept}
+use Rattle.reading.proofs.Growing.{grows_none, grows_on}
 use Rattle.documents.proofs.BlifGates.{InputsRead, inputs_read, GateRead, equation_on, names_read}
 
 -- every word of `.outputs` is collected
@@ -90,7 +91,7 @@ module _ (t a : List ℕ) (ha : Bits a) where
   declares : (l : List ℕ) (ls : List (List ℕ)) (ss : List (List ℕ)) (s mid s' : State) → is_line_of inputs l ≡ true → is_line_of outputs l ≡ false → is_line_of names l ≡ false
       → words_after (split_whitespace l) ≡ ss → mid.outputs ≡ s.outputs → InputsRead t a s.held mid.held ss → Reads ls mid s' → Reads (l ∷ ls) s s'
   declares l ls ss s mid s' i o n e q d r = record {
-    grows = grows_on t a s.held mid.held s'.held d.grows r.grows;
+    grows = grows_on (lookup t) (wire_value a) s.held mid.held s'.held d.grows r.grows;
     wired = r.wired;
     assigned =
         unfold declared in
@@ -122,7 +123,7 @@ module _ (t a : List ℕ) (ha : Bits a) where
   gate-line : (l : List ℕ) (ls : List (List ℕ)) (ss : List (List ℕ)) (rows : List (List (List ℕ))) (s mid s' : State) → is_line_of inputs l ≡ false → is_line_of outputs l ≡ false → is_line_of names l ≡ true
       → words_after (split_whitespace l) ≡ ss → cover_after ls ≡ rows → mid.outputs ≡ s.outputs → GateRead t a s.held mid.held ss rows → Reads ls mid s' → Reads (l ∷ ls) s s'
   gate-line l ls ss rows s mid s' i o n e c q d r = record {
-    grows = grows_on t a s.held mid.held s'.held d.grows r.grows;
+    grows = grows_on (lookup t) (wire_value a) s.held mid.held s'.held d.grows r.grows;
     wired = r.wired;
     assigned = unfold declared in rw i (subst (λ (m : ℕ). Assigned (value t a s'.held) a m (declared inputs ls)) d.counted r.assigned);
     equations = unfold gates in rw (n, e, c) (equation_on t a mid.held s'.held ss rows d.wired r.grows d.known d.equation, r.equations);
@@ -133,7 +134,7 @@ module _ (t a : List ℕ) (ha : Bits a) where
   unfolding read_lines
   lines_read p row [] s s' oks wd q =
       subst (λ (x : State). Reads [] s x) (yes_same q)
-      (record { grows = grows_none t a s.held; wired = wd; assigned = unfold declared in tt; equations = unfold gates in tt; collects = unfold declared in sym (append-nil (map (bytes_of t) s.outputs)) })
+      (record { grows = grows_none (lookup t) (wire_value a) s.held; wired = wd; assigned = unfold declared in tt; equations = unfold gates in tt; collects = unfold declared in sym (append-nil (map (bytes_of t) s.outputs)) })
   lines_read p row (l ∷ ls) s s' oks wd q =
       let r = then_yes (line_step t p row l ls s) (read_lines t p (row_next t l) ls) s' q in
       step r.0 (λ k. lines_read p (row_next t l) ls r.0 s' oks.1 k r.2) (line_yes t p row l ls s r.0 r.1) (dotted t l) refl

@@ -12,7 +12,8 @@ use lib.Dec.{eqb, ltb}
 use lib.ListN.{length, get_or, set, take, drop}
 use borrow.Author.Tests.{eqb-true, lt-leb}
 use Rattle.laws.specs.Stretches.{same_bytes}
-use Rattle.laws.proofs.Rows.{or_cases, one_bit, two_bits}
+use Rattle.std.proofs.lemmas.Bool.{or_cases}
+use Rattle.laws.proofs.Rows.{one_bit, two_bits}
 use Rattle.laws.proofs.Stretches.{same_eq}
 use Rattle.laws.proofs.Filling.{length_snoc, snoc_last}
 use Rattle.circuit.specs.declared.refusals.Refusal.TheVariants.{Unknown}

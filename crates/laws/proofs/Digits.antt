@@ -7,13 +7,13 @@ use mathlib.Core.Bool.{Bool, true, false, not, ◌&&◌, ◌||◌, false≢true}
 use native.Mathlib.Omega.{arith}
 use native.Mathlib.Nat.{zero-div, div-eq_of_lt, lt_of_not-le, pow-suc}
 use lib.Dec.{eqb, eqb-suc-suc, eqb-zero-suc, eqb-suc-zero}
-use lib.Pow.{shr-shr, shl_exact}
+use lib.Pow.{shr-shr}
 use lib.Bits.{bit_and, bit_or, and_shr, or_shr, and_step, or_step}
 use lib.Count.{count_trailing_zeros, under}
 use borrow.Author.Tests.{eq-eqb}
 use Rattle.std.proofs.Math.Bool.{or-true}
 use Rattle.laws.specs.Digits.{is_set, Turned}
-use Rattle.laws.proofs.Rows.{two_bits}
+use Rattle.laws.proofs.Rows.{two_bits, shifted_one}
 
 pub bit-zero : (b : ℕ) → is_set 0 b ≡ false
 unfolding is_set
@@ -92,14 +92,8 @@ lowest (suc k) x h n = go (x % 2) refl (lowest k (x / 2) (omega (arith, pow-suc 
 
 -- one bit set
 
-shl_one : (s : ℕ) → s < 64 → 1 * 2 ^ s % 18446744073709551616 ≡ 2 ^ s
-shl_one s h = shl_exact {a = 1} 1 s 64 (omega arith) (omega arith) ∙ one_of (2 ^ s)
-  where
-    one_of : (x : ℕ) → 1 * x ≡ x
-    one_of x = omega arith
-
 pub turned_on : (x b : ℕ) → b < 64 → (up : Bool) → up ≡ true → Turned up x b (bit_or x (1 * 2 ^ b % 18446744073709551616))
-turned_on x b h up e j = rw (shl_one b h, e) (bit-or x (2 ^ b) j ∙ ap (λ (t : Bool). is_set x j || t) (bit_power b j))
+turned_on x b h up e j = rw (shifted_one 64 b h, e) (bit-or x (2 ^ b) j ∙ ap (λ (t : Bool). is_set x j || t) (bit_power b j))
 
 -- where the bit was cleared, a number that is left was there before; where it was set, there is one
 

@@ -2,7 +2,7 @@
 -- Assumes nothing.
 use Rattle.std.specs.Prelude.{List, [], ◌∷◌, ◌++◌, ℕ, zero, suc, ◌+◌, ◌/◌, min, length, take, drop}
 
--- the words of records, one after the other
+-- the words of records, one after the other: std's `flat_map`, written out for a reader without std
 abbrev pub encodes : {A : Type 0} → (A → List ℕ) → List A → List ℕ
 encodes enc [] = []
 encodes enc (x ∷ xs) = enc x ++ encodes enc xs

@@ -16,7 +16,7 @@ unfoldable pub numbers : (ℕ → Bool) → ℕ → ℕ → List ℕ
 numbers p from zero = []
 numbers p from (suc n) = keep (p from) from (numbers p (suc from) n)
 
--- some element passes a test
+-- some element passes a test: std's `list_any`, written out since definitions are read beside 01 without std
 abbrev pub some : {A : Type 0} → (A → Bool) → List A → Bool
 some p [] = false
 some p (x ∷ xs) = p x || some p xs

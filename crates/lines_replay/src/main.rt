@@ -13,7 +13,7 @@ use std::rt::Files;
 use text::joining::logical_lines;
 
 fn joins_to(text: &[u8], answer: &[u8]) -> bool
-    requires { length text.now < 256 }
+    requires { length text.now < 257 }
 {
     let mut joined = [0u8; 257];
     let n = logical_lines(text, &mut joined);
@@ -25,11 +25,7 @@ fn split_counted(recorded: &[u8]) -> Option<(&[u8], &[u8])>
     ensures { IfSome result (λ parts. (length parts.0.now < 256) × (length parts.1.now < length recorded.now)) }
 {
     let (&len, rest) = recorded.split_first()?;
-    let len = usize::from(len);
-    if rest.len() < len {
-        return None;
-    }
-    Some(rest.split_at(len))
+    rest.split_at_checked(usize::from(len))
 }
 
 fn replay(rt: &impl Print, recorded: &[u8]) -> io::Result<()> {

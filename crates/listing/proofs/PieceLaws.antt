@@ -33,9 +33,6 @@ module _ {A : Type 0} (f : A → List ℕ) where
       let e : words f (take (k + 1) l) ≡ words f (take k l) ++ word (f (get_or l k d)) = rw (add-one k, take-suc l k d h) (words_snoc (take k l) (get_or l k d)) in
       q ∙ ap (λ (z : List ℕ). z ++ word (f (get_or l k d))) p ∙ append_assoc old (words f (take k l)) (word (f (get_or l k d))) ∙ ap (λ (z : List ℕ). old ++ z) (sym e)
 
-  pub words_all : (l : List A) (k : ℕ) (old new : List ℕ) → length l ≤ k → new ≡ old ++ words f (take k l) → new ≡ old ++ words f l
-  words_all l k old new h p = rw (take_all k l h) at p
-
 pub wires_most : (n : BoolNode) → length (wires_of n) ≤ 2
 unfolding wires_of
 wires_most n = go (is_cell_node n)

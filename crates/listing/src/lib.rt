@@ -1,7 +1,11 @@
-// The listing of a circuit, line by line, into a vector of fixed capacity.
+// The listing of a circuit, line by line, onto a vector of fixed capacity or a lent area.
 
 #![tactic(auto)]
 
 pub mod keys;
+pub mod lent;
+pub mod line;
 pub mod lines;
 pub mod pieces;
+#[cfg(test)]
+mod tests;

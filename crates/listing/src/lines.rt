@@ -1,20 +1,20 @@
 // The lines of the listing, each put at the end of what is written.
 ghost use Rattle.std.specs.Prelude.{◌≡◌, [], ◌++◌, ◌+◌, ◌/◌, ◌<◌, ◌≤◌, ◌*◌, length, get_or};
-ghost use Rattle.arrayvec.specs.ArrayVec.{array_vec_len};
 ghost use Rattle.circuit.specs.Records.{node_at, output_at, nodes_of, outputs_of};
 ghost use Rattle.listing.specs.Listing.{node_head, input_line, cell_line, node_line, output_line, count_line, order_line, refused_line, listing};
 ghost use Rattle.listing.specs.Lines.{Room};
 
+use crate::line::Line;
 use crate::pieces::{put_bytes, put_name, put_number, put_numbers, put_wire_word, put_wires};
-use arrayvec::ArrayVec;
 use circuit::nodes::{Nodes, Outputs};
 use circuit::records::{BoolNode, Name};
 
 // `refused N`.
 #[tactic(auto, unfolding(crate::specs::Listing::refused_line))]
-pub fn put_refused<const N: usize>(line: &mut ArrayVec<u8, N>, n: usize)
-    requires { array_vec_len line.old + 128 ≤ N }
-    ensures { line.new.items ≡ line.old.items ++ refused_line n }
+pub fn put_refused<L: Line>(line: &mut L, n: usize)
+    requires { 128 ≤ L.room line.old }
+    ensures written { L.written line.new ≡ L.written line.old ++ refused_line n }
+    ensures place { L.place line.new ≡ L.place line.old }
 {
     put_bytes(line, b"refused");
     put_number(line, n);
@@ -23,9 +23,10 @@ pub fn put_refused<const N: usize>(line: &mut ArrayVec<u8, N>, n: usize)
 
 // `nodes N`.
 #[tactic(auto, unfolding(crate::specs::Listing::count_line))]
-pub fn put_count<const N: usize>(line: &mut ArrayVec<u8, N>, n: usize)
-    requires { array_vec_len line.old + 128 ≤ N }
-    ensures { line.new.items ≡ line.old.items ++ count_line n }
+pub fn put_count<L: Line>(line: &mut L, n: usize)
+    requires { 128 ≤ L.room line.old }
+    ensures written { L.written line.new ≡ L.written line.old ++ count_line n }
+    ensures place { L.place line.new ≡ L.place line.old }
 {
     put_bytes(line, b"nodes");
     put_number(line, n);
@@ -34,17 +35,11 @@ pub fn put_count<const N: usize>(line: &mut ArrayVec<u8, N>, n: usize)
 
 // A node's letter, number and name.
 #[tactic(auto, unfolding(crate::specs::Listing::node_head))]
-pub fn put_head<const N: usize>(
-    line: &mut ArrayVec<u8, N>,
-    text: &[u8],
-    letter: u8,
-    before: &[u8],
-    i: usize,
-    name: Name,
-)
-    requires { (length before.now ≤ 2) × (array_vec_len line.old + (length text.now + 50) ≤ N) }
-    ensures items { line.new.items ≡ line.old.items ++ node_head text.now letter before.now i name }
-    ensures within { array_vec_len line.new ≤ array_vec_len line.old + (length text.now + 50) }
+pub fn put_head<L: Line>(line: &mut L, text: &[u8], letter: u8, before: &[u8], i: usize, name: Name)
+    requires { (length before.now ≤ 2) × (length text.now + 50 ≤ L.room line.old) }
+    ensures written { L.written line.new ≡ L.written line.old ++ node_head text.now letter before.now i name }
+    ensures room { L.room line.old ≤ L.room line.new + (length text.now + 50) }
+    ensures place { L.place line.new ≡ L.place line.old }
 {
     line.push(letter);
     put_number(line, i);
@@ -54,9 +49,10 @@ pub fn put_head<const N: usize>(
 
 // The line of an input.
 #[tactic(auto, unfolding(crate::specs::Listing::input_line))]
-pub fn put_input<const N: usize>(line: &mut ArrayVec<u8, N>, text: &[u8], i: usize, n: BoolNode)
-    requires { array_vec_len line.old + (length text.now + 128) ≤ N }
-    ensures { line.new.items ≡ line.old.items ++ input_line text.now i n }
+pub fn put_input<L: Line>(line: &mut L, text: &[u8], i: usize, n: BoolNode)
+    requires { length text.now + 128 ≤ L.room line.old }
+    ensures written { L.written line.new ≡ L.written line.old ++ input_line text.now i n }
+    ensures place { L.place line.new ≡ L.place line.old }
 {
     put_head(line, text, b'I', b"i_", i, n.name);
     line.push(b'\n');
@@ -64,9 +60,10 @@ pub fn put_input<const N: usize>(line: &mut ArrayVec<u8, N>, text: &[u8], i: usi
 
 // The line of a cell.
 #[tactic(auto, unfolding(crate::specs::Listing::cell_line))]
-pub fn put_cell<const N: usize>(line: &mut ArrayVec<u8, N>, text: &[u8], i: usize, n: BoolNode)
-    requires { array_vec_len line.old + (length text.now + 128) ≤ N }
-    ensures { line.new.items ≡ line.old.items ++ cell_line text.now i n }
+pub fn put_cell<L: Line>(line: &mut L, text: &[u8], i: usize, n: BoolNode)
+    requires { length text.now + 128 ≤ L.room line.old }
+    ensures written { L.written line.new ≡ L.written line.old ++ cell_line text.now i n }
+    ensures place { L.place line.new ≡ L.place line.old }
 {
     put_head(line, text, b'L', b"w_", i, n.name);
     put_number(line, n.table);
@@ -76,9 +73,10 @@ pub fn put_cell<const N: usize>(line: &mut ArrayVec<u8, N>, text: &[u8], i: usiz
 
 // The line of node i.
 #[tactic(auto, unfolding(crate::specs::Listing::node_line, circuit::specs::Records::is_cell_node))]
-pub fn put_node<const N: usize>(line: &mut ArrayVec<u8, N>, text: &[u8], nodes: Nodes, i: usize)
-    requires { (i < nodes.count) × (array_vec_len line.old + (length text.now + 128) ≤ N) }
-    ensures { line.new.items ≡ line.old.items ++ node_line text.now i (node_at nodes.entry.words.now i) }
+pub fn put_node<L: Line>(line: &mut L, text: &[u8], nodes: Nodes, i: usize)
+    requires { (i < nodes.count) × (length text.now + 128 ≤ L.room line.old) }
+    ensures written { L.written line.new ≡ L.written line.old ++ node_line text.now i (node_at nodes.entry.words.now i) }
+    ensures place { L.place line.new ≡ L.place line.old }
 {
     let n = nodes.at(i);
     if n.kind == 2 {
@@ -90,14 +88,10 @@ pub fn put_node<const N: usize>(line: &mut ArrayVec<u8, N>, text: &[u8], nodes: 
 
 // The line of output j.
 #[tactic(auto, unfolding(crate::specs::Listing::output_line))]
-pub fn put_output<const N: usize>(
-    line: &mut ArrayVec<u8, N>,
-    text: &[u8],
-    outputs: Outputs,
-    j: usize,
-)
-    requires { (j < outputs.count) × (array_vec_len line.old + (length text.now + 128) ≤ N) }
-    ensures { line.new.items ≡ line.old.items ++ output_line text.now (output_at outputs.entry.words.now j) }
+pub fn put_output<L: Line>(line: &mut L, text: &[u8], outputs: Outputs, j: usize)
+    requires { (j < outputs.count) × (length text.now + 128 ≤ L.room line.old) }
+    ensures written { L.written line.new ≡ L.written line.old ++ output_line text.now (output_at outputs.entry.words.now j) }
+    ensures place { L.place line.new ≡ L.place line.old }
 {
     let o = outputs.at(j);
     put_bytes(line, b"O ");
@@ -108,9 +102,10 @@ pub fn put_output<const N: usize>(
 
 // The line of the order.
 #[tactic(auto, unfolding(crate::specs::Listing::order_line))]
-pub fn put_order<const N: usize>(line: &mut ArrayVec<u8, N>, order: &[usize])
-    requires { array_vec_len line.old + (21 * length order.now + 2) ≤ N }
-    ensures { line.new.items ≡ line.old.items ++ order_line order.now }
+pub fn put_order<L: Line>(line: &mut L, order: &[usize])
+    requires { 21 * length order.now + 2 ≤ L.room line.old }
+    ensures written { L.written line.new ≡ L.written line.old ++ order_line order.now }
+    ensures place { L.place line.new ≡ L.place line.old }
 {
     line.push(b'S');
     put_numbers(line, order);
@@ -118,16 +113,17 @@ pub fn put_order<const N: usize>(line: &mut ArrayVec<u8, N>, order: &[usize])
 }
 
 // Line k of the listing, and nothing else; nothing where there is none.
-pub fn listing_line<const N: usize>(
-    line: &mut ArrayVec<u8, N>,
+pub fn listing_line<L: Line>(
+    line: &mut L,
     text: &[u8],
     nodes: &[usize],
     outputs: &[usize],
     order: &[usize],
     k: usize,
 )
-    requires { Room (length text.now) (length order.now) N }
-    ensures { line.new.items ≡ get_or (listing text.now (nodes_of nodes.now (length nodes.now / 9)) (outputs_of outputs.now (length outputs.now / 5)) order.now) k [] }
+    requires { Room (length text.now) (length order.now) (L.place line.old).size }
+    ensures written { L.written line.new ≡ get_or (listing text.now (nodes_of nodes.now (length nodes.now / 9)) (outputs_of outputs.now (length outputs.now / 5)) order.now) k [] }
+    ensures place { L.place line.new ≡ L.place line.old }
 {
     line.clear();
     let nodes = Nodes::of(nodes);

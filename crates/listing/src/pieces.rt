@@ -1,60 +1,51 @@
 // The pieces of a line: numbers, wires and names, each put at the end of what is written of it.
-ghost use Rattle.std.specs.Prelude.{◌≡◌, ◌∷◌, [], ◌++◌, ◌+◌, ◌*◌, ◌≤◌, ◌<◌, length};
-ghost use Rattle.arrayvec.specs.ArrayVec.{array_vec_len};
+ghost use Rattle.std.specs.Prelude.{◌≡◌, ◌++◌, ◌+◌, ◌*◌, ◌≤◌, length};
 ghost use Rattle.laws.specs.Stretches.{stretch};
 ghost use Rattle.circuit.specs.Records.{wires_of};
 ghost use Rattle.listing.specs.Decimal.{decimal};
 ghost use Rattle.listing.specs.Listing.{word, words, wire_bytes, name_bytes};
 
-use arrayvec::ArrayVec;
+use crate::line::Line;
 use circuit::records::{BoolNode, BoolWire, Name, wire_at, wire_count};
+use itoa::Buffer;
 
 // Bytes that are given.
-pub fn put_bytes<const N: usize>(line: &mut ArrayVec<u8, N>, bytes: &[u8])
-    requires { array_vec_len line.old + length bytes.now ≤ N }
-    ensures items { line.new.items ≡ line.old.items ++ bytes.now }
-    ensures within { array_vec_len line.new ≡ array_vec_len line.old + length bytes.now }
+pub fn put_bytes<L: Line>(line: &mut L, bytes: &[u8])
+    requires { length bytes.now ≤ L.room line.old }
+    ensures written { L.written line.new ≡ L.written line.old ++ bytes.now }
+    ensures room { L.room line.old ≡ L.room line.new + length bytes.now }
+    ensures place { L.place line.new ≡ L.place line.old }
 {
-    line.try_extend_from_slice(bytes).unwrap();
-}
-
-// The byte of a digit.
-pub fn digit(d: usize) -> u8
-    requires { d < 10 }
-    ensures { result ≡ 48 + d }
-{
-    b'0' + d as u8
+    line.extend(bytes);
 }
 
 // The digits of a number.
-pub fn put_decimal<const N: usize>(line: &mut ArrayVec<u8, N>, n: usize)
-    requires { array_vec_len line.old + 20 ≤ N }
-    ensures items { line.new.items ≡ line.old.items ++ decimal n }
-    ensures within { array_vec_len line.new ≤ array_vec_len line.old + 20 }
+pub fn put_decimal<L: Line>(line: &mut L, n: usize)
+    requires { 20 ≤ L.room line.old }
+    ensures written { L.written line.new ≡ L.written line.old ++ decimal n }
+    ensures room { L.room line.old ≤ L.room line.new + 20 }
+    ensures place { L.place line.new ≡ L.place line.old }
 {
-    if n < 10 {
-        line.push(digit(n));
-    } else {
-        put_decimal(line, n / 10);
-        line.push(digit(n % 10));
-    }
+    line.extend(Buffer::new().format(n).as_bytes());
 }
 
 // A space and a number.
-pub fn put_number<const N: usize>(line: &mut ArrayVec<u8, N>, n: usize)
-    requires { array_vec_len line.old + 21 ≤ N }
-    ensures items { line.new.items ≡ line.old.items ++ word (decimal n) }
-    ensures within { array_vec_len line.new ≤ array_vec_len line.old + 21 }
+pub fn put_number<L: Line>(line: &mut L, n: usize)
+    requires { 21 ≤ L.room line.old }
+    ensures written { L.written line.new ≡ L.written line.old ++ word (decimal n) }
+    ensures room { L.room line.old ≤ L.room line.new + 21 }
+    ensures place { L.place line.new ≡ L.place line.old }
 {
     line.push(b' ');
     put_decimal(line, n);
 }
 
 // Numbers, each with a space before it.
-pub fn put_numbers<const N: usize>(line: &mut ArrayVec<u8, N>, numbers: &[usize])
-    requires { array_vec_len line.old + 21 * length numbers.now ≤ N }
-    ensures items { line.new.items ≡ line.old.items ++ words decimal numbers.now }
-    ensures within { array_vec_len line.new ≤ array_vec_len line.old + 21 * length numbers.now }
+pub fn put_numbers<L: Line>(line: &mut L, numbers: &[usize])
+    requires { 21 * length numbers.now ≤ L.room line.old }
+    ensures written { L.written line.new ≡ L.written line.old ++ words decimal numbers.now }
+    ensures room { L.room line.old ≤ L.room line.new + 21 * length numbers.now }
+    ensures place { L.place line.new ≡ L.place line.old }
 {
     for &n in numbers {
         put_number(line, n);
@@ -62,10 +53,11 @@ pub fn put_numbers<const N: usize>(line: &mut ArrayVec<u8, N>, numbers: &[usize]
 }
 
 // A wire: `n` and its node's number, or `c0`, `c1`.
-pub fn put_wire<const N: usize>(line: &mut ArrayVec<u8, N>, w: BoolWire)
-    requires { array_vec_len line.old + 21 ≤ N }
-    ensures items { line.new.items ≡ line.old.items ++ wire_bytes w }
-    ensures within { array_vec_len line.new ≤ array_vec_len line.old + 21 }
+pub fn put_wire<L: Line>(line: &mut L, w: BoolWire)
+    requires { 21 ≤ L.room line.old }
+    ensures written { L.written line.new ≡ L.written line.old ++ wire_bytes w }
+    ensures room { L.room line.old ≤ L.room line.new + 21 }
+    ensures place { L.place line.new ≡ L.place line.old }
 {
     match w {
         BoolWire::Const(true) => put_bytes(line, b"c1"),
@@ -78,20 +70,22 @@ pub fn put_wire<const N: usize>(line: &mut ArrayVec<u8, N>, w: BoolWire)
 }
 
 // A space and a wire.
-pub fn put_wire_word<const N: usize>(line: &mut ArrayVec<u8, N>, w: BoolWire)
-    requires { array_vec_len line.old + 22 ≤ N }
-    ensures items { line.new.items ≡ line.old.items ++ word (wire_bytes w) }
-    ensures within { array_vec_len line.new ≤ array_vec_len line.old + 22 }
+pub fn put_wire_word<L: Line>(line: &mut L, w: BoolWire)
+    requires { 22 ≤ L.room line.old }
+    ensures written { L.written line.new ≡ L.written line.old ++ word (wire_bytes w) }
+    ensures room { L.room line.old ≤ L.room line.new + 22 }
+    ensures place { L.place line.new ≡ L.place line.old }
 {
     line.push(b' ');
     put_wire(line, w);
 }
 
 // The wires of a node.
-pub fn put_wires<const N: usize>(line: &mut ArrayVec<u8, N>, n: BoolNode)
-    requires { array_vec_len line.old + 44 ≤ N }
-    ensures items { line.new.items ≡ line.old.items ++ words wire_bytes (wires_of n) }
-    ensures within { array_vec_len line.new ≤ array_vec_len line.old + 44 }
+pub fn put_wires<L: Line>(line: &mut L, n: BoolNode)
+    requires { 44 ≤ L.room line.old }
+    ensures written { L.written line.new ≡ L.written line.old ++ words wire_bytes (wires_of n) }
+    ensures room { L.room line.old ≤ L.room line.new + 44 }
+    ensures place { L.place line.new ≡ L.place line.old }
 {
     for k in 0..wire_count(n) {
         put_wire_word(line, wire_at(n, k));
@@ -99,10 +93,11 @@ pub fn put_wires<const N: usize>(line: &mut ArrayVec<u8, N>, n: BoolNode)
 }
 
 // A stretch of the text, as far as the text goes.
-pub fn put_part<const N: usize>(line: &mut ArrayVec<u8, N>, text: &[u8], start: usize, len: usize)
-    requires { array_vec_len line.old + length text.now ≤ N }
-    ensures items { line.new.items ≡ line.old.items ++ stretch text.now start len }
-    ensures within { array_vec_len line.new ≤ array_vec_len line.old + length text.now }
+pub fn put_part<L: Line>(line: &mut L, text: &[u8], start: usize, len: usize)
+    requires { length text.now ≤ L.room line.old }
+    ensures written { L.written line.new ≡ L.written line.old ++ stretch text.now start len }
+    ensures room { L.room line.old ≤ L.room line.new + length text.now }
+    ensures place { L.place line.new ≡ L.place line.old }
 {
     let from = start.min(text.len());
     let end = from + len.min(text.len() - from);
@@ -110,10 +105,11 @@ pub fn put_part<const N: usize>(line: &mut ArrayVec<u8, N>, text: &[u8], start: 
 }
 
 // A name, with what stands before a wire's number.
-pub fn put_name<const N: usize>(line: &mut ArrayVec<u8, N>, text: &[u8], before: &[u8], name: Name)
-    requires { (length before.now ≤ 2) × (array_vec_len line.old + (length text.now + 27) ≤ N) }
-    ensures items { line.new.items ≡ line.old.items ++ name_bytes text.now before.now name }
-    ensures within { array_vec_len line.new ≤ array_vec_len line.old + (length text.now + 27) }
+pub fn put_name<L: Line>(line: &mut L, text: &[u8], before: &[u8], name: Name)
+    requires { (length before.now ≤ 2) × (length text.now + 27 ≤ L.room line.old) }
+    ensures written { L.written line.new ≡ L.written line.old ++ name_bytes text.now before.now name }
+    ensures room { L.room line.old ≤ L.room line.new + (length text.now + 27) }
+    ensures place { L.place line.new ≡ L.place line.old }
 {
     match name {
         Name::Stretch { start, len } => put_part(line, text, start, len),

@@ -1,9 +1,13 @@
 -- Laws of the bytes of a stretch as numbers.
 -- Assumes nothing.
-use Rattle.std.proofs.Common.{◌≡◌, ℕ, zero, suc, ◌+◌, ◌-◌, ◌*◌, ◌/◌, ◌%◌, ◌^◌, ◌<◌, ◌≤◌, Bool, ◌&&◌, eqb, List, [], ◌∷◌, length, get_or, take, drop, refl, ap, ◌∙◌, ap₂, arith, get_or-drop}
+use Rattle.std.proofs.Common.{◌≡◌, ℕ, zero, suc, ◌+◌, ◌-◌, ◌*◌, ◌/◌, ◌%◌, ◌^◌, ◌<◌, ◌≤◌, eqb, List, [], ◌∷◌, length, get_or, take, drop, refl, ap, ◌∙◌, ap₂, arith, get_or-drop}
 use Rattle.std.specs.Cmp.Lexicographic.{pointwise}
+use Rattle.std.specs.Simd.{first_chunks}
+use Rattle.std.specs.Int.{from_le_bytes, w32}
+use lib.Seq.{drop-drop}
 use Rattle.laws.specs.Stretches.{stretch, same_bytes}
-use Rattle.laws.proofs.Stretches.{rest_step, head_step, stretch-none}
+use Rattle.laws.proofs.Stretches.{rest_step, head_step, stretch-none, drop-stretch}
+use Rattle.text.proofs.ByteLaws.{same_pointwise}
 use Rattle.names.specs.Chains.{word_of}
 
 -- each element is a byte
@@ -79,17 +83,22 @@ four_rest t s n i h k =
     rest_step t s n (i * 4 + 1 + 1 + 1) (omega arith) k
     ∙ ap₂ ◌∷◌ (ap (λ (x : ℕ). get_or t x 0) three) (ap (λ (x : ℕ). stretch t (s + x) (n - x)) four))))
 
--- `==` of two parts of a text
-equal_is_same : (x y : List ℕ) → pointwise eqb x y ≡ same_bytes x y
-unfolding same_bytes
-equal_is_same [] [] = refl
-equal_is_same [] (y ∷ ys) = refl
-equal_is_same (x ∷ xs) [] = refl
-equal_is_same (x ∷ xs) (y ∷ ys) = ap (λ (t : Bool). eqb x y && t) (equal_is_same xs ys)
+-- four bytes of a stretch as its chunks have them
+chunk_at : (k i : ℕ) (l : List ℕ) → i < k → get_or (first_chunks 4 k l) i [] ≡ take 4 (drop (i * 4) l)
+chunk_at zero i l h = absurd (omega arith)
+chunk_at (suc k) zero l h = refl
+chunk_at (suc k) (suc i) l h =
+    let e : 4 + i * 4 ≡ suc i * 4 = omega arith in
+    chunk_at k i (drop 4 l) (omega arith) ∙ ap (take 4) (drop-drop (i * 4) 4 l ∙ ap (λ (n : ℕ). drop n l) e)
 
-pub equal_parts : (t : List ℕ) (a b n : ℕ) → pointwise eqb (take (a + n - a) (drop a t)) (take (b + n - b) (drop b t)) ≡ same_bytes (stretch t a n) (stretch t b n)
+pub chunk_number : (t : List ℕ) (s n i : ℕ) (bytes : List ℕ) (chunks : List (List ℕ)) → i < n / 4 → s + n ≤ length t → bytes ≡ stretch t s n → length bytes ≡ n
+    → chunks ≡ first_chunks 4 (length bytes / 4) bytes → from_le_bytes w32 (get_or chunks i []) ≡ four_bytes t (s + i * 4)
+chunk_number t s n i bytes chunks h k eb en ec =
+    rw (ec, en, eb, chunk_at (n / 4) i (stretch t s n) h, drop-stretch (i * 4) t s n, four_rest t s n i h k) (omega arith)
+
+-- `==` of a part of a text and other bytes
+pub equal_part : (t : List ℕ) (a n : ℕ) (bytes : List ℕ) → pointwise eqb (take (a + n - a) (drop a t)) bytes ≡ same_bytes (stretch t a n) bytes
 unfolding stretch
-equal_parts t a b n =
+equal_part t a n bytes =
     let e : a + n - a ≡ n = omega arith in
-    let f : b + n - b ≡ n = omega arith in
-    rw (e, f) (equal_is_same (take n (drop a t)) (take n (drop b t)))
+    rw e (same_pointwise (take n (drop a t)) bytes)

@@ -78,8 +78,8 @@ pub fn sum_words(text: &[u8], word: Word) -> Sums
     ensures len_value_2 { mixed result.mix (stretch text.now (word.start + word.len / 4 * 4) (word.len - word.len / 4 * 4)) ≡ mixed 0 (stretch text.now word.start word.len) }
 {
     let mut sums = Sums { sum: 0, mix: 0 };
-    for i in 0..word.len / 4 {
-        sums = sums.with_word(four_bytes(text, word.start + i * 4));
+    for &four in word.bytes(text).as_chunks::<4>().0 {
+        sums = sums.with_word(u32::from_le_bytes(four));
     }
     sums
 }
@@ -89,6 +89,7 @@ pub fn sum_words(text: &[u8], word: Word) -> Sums
 pub struct Hash {
     pub bucket: u8,
     pub trail: usize,
+    ghost trail_fits: { trail < 4194304 },
 }
 
 // Both in one pass.

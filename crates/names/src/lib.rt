@@ -24,7 +24,7 @@ pub fn same_name(text: &[u8], start: usize, word: Word) -> bool
     requires { (start + word.len ≤ length text.now) × (word.start + word.len ≤ length text.now) }
     ensures { result ≡ same_bytes (stretch text.now start word.len) (stretch text.now word.start word.len) }
 {
-    &text[start..start + word.len] == &text[word.start..word.start + word.len]
+    &text[start..start + word.len] == word.bytes(text)
 }
 
 // The link that a digit chooses in the record at `base`.
@@ -57,16 +57,17 @@ pub fn has_name(text: &[u8], word: Word, key: usize, packed: usize) -> bool
 
 // How far a search has come: the record at hand, and the rest of the trail.
 // A record goes by the number that links to it, one more than its own, and none by 0: a link is 21 bits of a lent word, which has no room for an `Option`.
+// It stays so here and in `End`: with an `Option` each clause would turn it back into that number, of which `link_at`, `EndsAt` and `linked` speak.
 #[derive(Clone, Copy)]
 pub struct Walk {
     pub at: usize,
     pub rest: usize,
+    ghost rest_fits: { rest < 4194304 },
 }
 
 impl Walk {
     // The digit that chooses the next link.
     pub fn digit(self) -> usize
-        requires { self.rest < 4194304 }
         ensures { (result ≡ digit_of self.rest) × (result < 6) }
     {
         self.rest * 6 / TRAILS
@@ -74,7 +75,7 @@ impl Walk {
 
     // One link further.
     pub fn step(self, names: &[usize]) -> Walk
-        requires { (0 < self.at) × (self.at * 4 ≤ length names.now) × (self.rest < 4194304) }
+        requires { (0 < self.at) × (self.at * 4 ≤ length names.now) }
         ensures next_at { result.at ≡ link_at names.now ((self.at - 1) * 4) (digit_of self.rest) }
         ensures next_rest { result.rest ≡ self.rest * 6 % 4194304 }
     {

@@ -8,20 +8,19 @@ use mathlib.Core.Bool.{Bool, true, false}
 use mathlib.Core.List.{List, [], ◌∷◌, map}
 use native.Mathlib.Omega.{arith}
 use lib.Seq.{length-take-le}
-use lib.ListN.{length, length-append, length-replicate, length-take, take, replicate}
+use lib.ListN.{length, length-append, length-replicate, take, replicate}
 use Rattle.laws.specs.Lists.{keep, numbers}
 use Rattle.laws.specs.Areas.{encodes}
 use Rattle.laws.proofs.Areas.{length-encodes}
-use Rattle.circuit.specs.Refusals.{Checked}
-use Rattle.circuit.specs.Refusals.{Try}
+use Rattle.circuit.specs.Refusals.{Try, Checked, check_then}
 use Rattle.circuit.specs.Circuits.{Circuit, filled, read_answer, node_words, output_words}
 use Rattle.circuit.specs.Records.{encode_node, encode_output, nodes_of}
 use Rattle.circuit.specs.Graph.{vertex_of, graph_of, is_cell, cells_of}
 use Rattle.circuit.proofs.Codes.{node_wide, output_wide, length_nodes}
 use Rattle.reading.specs.Areas.{Leaves}
-use Rattle.schedule.specs.Call.{ordered_cells, graph_in, leaves, answer_of, schedule_fault, schedule_call}
+use Rattle.schedule.specs.Call.{ordered_cells, graph_in, leaves, schedule_fault, schedule_call}
 use Rattle.listing.specs.Lines.{Room}
-use Rattle.printing.specs.Inside.{Inside, ReadInside, Listable}
+use Rattle.printing.specs.Inside.{ReadInside, Listable}
 
 -- ---- as many cells as nodes at the most
 
@@ -43,7 +42,7 @@ unfolding cells_of graph_in graph_of
 cells_most nodes n =
     omega (arith, numbers_most (is_cell (graph_in nodes n)) 0 (length (graph_in nodes n)), length-map vertex_of (nodes_of nodes n), length_nodes nodes n)
 
-answer_most : (fault : Checked) (cells : ℕ) → ordered_cells (answer_of fault cells) ≤ cells
+answer_most : (fault : Checked) (cells : ℕ) → ordered_cells (check_then fault (Ok cells)) ≤ cells
 answer_most (Ok u) cells = omega arith
 answer_most (Err e) cells = omega arith
 
@@ -78,9 +77,6 @@ inside c r nodes outputs w o p a s b t = subst (λ (x : Try Sizes). ReadInside x
           words_of_outputs = omega (arith, filled_inside (encodes encode_output q.outputs) outputs o b t, length-encodes encode_output 5 output_wide q.outputs);
         }
 
-pub read_inside : (r : Try Sizes) (text nodes outputs : List ℕ) (z : Sizes) → Listable text nodes outputs r → r ≡ Ok z → Inside z.nodes z.outputs nodes outputs
-read_inside r text nodes outputs z l e = subst (λ (x : Try Sizes). ReadInside x nodes outputs) e l.inside
-
 -- of a text whose lines were joined
 pub joined_inside : (text : List ℕ) (c : Try Circuit) (j w k o : ℕ) (r : Try Sizes) (joined nodes names outputs : List ℕ) → Leaves text c j w k o r joined nodes names outputs
     → length joined ≡ 32769 → length nodes ≡ w → w ≡ 9216 → length outputs ≡ o → Listable joined nodes outputs r
@@ -91,9 +87,6 @@ joined_inside text c j w k o r joined nodes names outputs l f s g t =
 
 pub front_size : {A : Type 0} (n : ℕ) (l : List A) → n ≤ length l → n ≡ length (take n l)
 front_size n l h = sym (length-take-le n l h)
-
-pub front_within : {A : Type 0} (n : ℕ) (l : List A) (most : ℕ) → length l ≤ most → length (take n l) ≤ most
-front_within n l most h = rw (length-take n l) (omega arith)
 
 -- room for every line of a circuit of at most 1,024 nodes
 pub circuit-room : (text order : List ℕ) (n : ℕ) → length text ≤ 32769 → n ≤ 1024 → n ≤ length order → Room (length text) (length (take n order)) 33024

@@ -3,15 +3,13 @@
 use Rattle.std.specs.Prelude.{Option}
 use Prim.Native.Nat.{ℕ, ◌+◌, ◌-◌, ◌≤◌}
 use mathlib.Core.Path.{◌≡◌, sym, ap, ◌∙◌}
-use mathlib.Core.List.{List, ◌++◌, append-nil}
-use native.Mathlib.Omega.{arith}
+use mathlib.Core.List.{List, ◌++◌}
 use lib.ListN.{length, take}
 use lib.Seq.{length-take-le}
 use borrow.Rule.Slice.PartMut.{put_mid, post_of}
 use Rattle.std.specs.Io.KnownBytes.{Consumes}
 use Rattle.std.proofs.KnownBytes.{Consumes-trans}
 use Rattle.std.proofs.lemmas.List.{take-append-le}
-use Rattle.std.proofs.lemmas.Slice.{take-put_mid_below}
 use Rattle.std.proofs.Math.Seq.{take-append-add}
 
 module _ (d : ℕ) (room part : List ℕ) (h : d ≤ length room) where
@@ -24,6 +22,3 @@ module _ (d : ℕ) (room part : List ℕ) (h : d ≤ length room) where
   module _ (a b c : Option (List ℕ)) (p : Consumes a b (take d room)) where
     pub read_more : (n : ℕ) → n ≤ length part → Consumes b c (take n part) → Consumes a c (take (d + n) (put_mid d (length room - d) room part))
     read_more n k q = rw (filled_to n k) (Consumes-trans a b c (take d room) (take n part) p q)
-
-    pub read_none : Consumes b c (take 0 part) → Consumes a c (take d (put_mid d (length room - d) room part))
-    read_none q = rw (take-put_mid_below d (length room - d) room part d (omega arith) h) (rw append-nil at (Consumes-trans a b c (take d room) (take 0 part) p q))

@@ -16,6 +16,7 @@ use arrayvec::ArrayVec;
 use circuit::records::Sizes;
 use circuit::refusals::Refusal;
 use listing::keys::fill_keys;
+use listing::line::Line;
 use listing::lines::{listing_line, put_refused};
 use schedule::scheduled_gates_by_key;
 use std::io;
@@ -53,16 +54,17 @@ pub fn print_refused<W: Write>(out: &mut W, e: Refusal) -> io::Result<()>
 }
 
 // Writes every line of the listing.
-pub fn print_lines<const N: usize, W: Write>(
+pub fn print_lines<L: Line, W: Write>(
     out: &mut W,
     text: &[u8],
     nodes: &[usize],
     outputs: &[usize],
     order: &[usize],
-    line: &mut ArrayVec<u8, N>,
+    line: &mut L,
 ) -> io::Result<()>
-    requires { Room (length text.now) (length order.now) N }
-    ensures { OnOk result (Appends (W.contents out.old) (W.contents out.new) (printed_lines text.now nodes.now outputs.now order.now)) }
+    requires { Room (length text.now) (length order.now) (L.place line.old).size }
+    ensures printed { OnOk result (Appends (W.contents out.old) (W.contents out.new) (printed_lines text.now nodes.now outputs.now order.now)) }
+    ensures place { L.place line.new ≡ L.place line.old }
 {
     let lines = nodes.len() / 9 + outputs.len() / 5 + 2;
     for k in 0..lines {

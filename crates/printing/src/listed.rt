@@ -1,7 +1,7 @@
 // What a list program does with a text of each format.
-ghost use Rattle.std.specs.Prelude.{◌<◌, ℕ, List, length, OnOk};
-ghost use Rattle.std.specs.Io.KnownBytes.{Appends, Consumes, IsAtEnd};
-ghost use Rattle.printing.specs.Printed.{printed_text, printed_bristol, printed_input, Listed as IsListed};
+ghost use Rattle.std.specs.Prelude.{ℕ, List, OnOk};
+ghost use Rattle.std.specs.Io.KnownBytes.{Appends};
+ghost use Rattle.printing.specs.Printed.{printed_text, printed_bristol, Listed as IsListed};
 
 use crate::input::read_full;
 use crate::rooms::room;

@@ -7,3 +7,4 @@ pub mod Outer
 pub mod Sound
 pub mod Ended
 pub mod Cases
+pub mod Growing

@@ -21,8 +21,8 @@ use Rattle.circuit.specs.declared.refusals.Refusal.TheVariants.{NoDriver, NoOutp
 use Rattle.circuit.specs.declared.records.BoolNode.{BoolNode}
 use Rattle.circuit.specs.declared.records.Output.{Output}
 use Rattle.circuit.specs.Refusals.{Try, and_then}
-use Rattle.circuit.specs.Records.{wire_of, wire_word, encode_output, outputs_of}
-use Rattle.circuit.proofs.Codes.{outputs_of_area}
+use Rattle.circuit.specs.Records.{encode_output, outputs_of}
+use Rattle.circuit.proofs.Codes.{outputs_of_area, wire_word_back}
 use Rattle.text.specs.declared.words.Word.{Word}
 use Rattle.names.specs.Names.{Entry}
 use Rattle.reading.specs.Reading.{find, Out, output_of, resolve, closed}
@@ -61,13 +61,8 @@ list_length a n = length_up (out_at a) 0 n
 
 -- ---- the outputs of the area are the circuit's
 
-wire-word : (x : ℕ) → wire_word (wire_of x) ≡ x
-wire-word zero = refl
-wire-word (suc zero) = refl
-wire-word (suc (suc k)) = omega arith
-
 encode-output : (o : Out) → encode_output (output_of o) ≡ encode_out o
-encode-output o = ap (λ (x : ℕ). 1 ∷ o.word.start ∷ o.word.len ∷ 0 ∷ x ∷ []) (wire-word o.wire)
+encode-output o = ap (λ (x : ℕ). 1 ∷ o.word.start ∷ o.word.len ∷ 0 ∷ x ∷ []) (wire_word_back o.wire)
 
 encode_outputs : (os : List Out) → encodes encode_out os ≡ encodes encode_output (map output_of os)
 encode_outputs [] = refl

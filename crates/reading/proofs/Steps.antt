@@ -3,20 +3,18 @@
 use Rattle.std.specs.Prelude.{Err, None, Ok, Option, Some}
 use Prim.Native.Nat.{ℕ, zero, suc, ◌+◌, ◌≤◌, ◌<◌}
 use mathlib.Core.Path.{◌≡◌, refl, ap}
-use mathlib.Core.Bool.{Bool, true, false, ◌&&◌}
+use mathlib.Core.Bool.{Bool}
 use mathlib.Core.List.{List, [], ◌∷◌, ◌++◌}
 use lib.ListN.{length}
 use borrow.Author.Tests.{lt-ltb, le-ltb}
-use Rattle.laws.specs.Stretches.{same_bytes}
 use Rattle.laws.proofs.Stretches.{all_append}
 use Rattle.circuit.specs.declared.refusals.Refusal.{Refusal}
 use Rattle.circuit.specs.declared.refusals.Refusal.TheVariants.{NoRoom, DefinedBefore}
 use Rattle.circuit.specs.declared.records.BoolNode.{BoolNode}
 use Rattle.circuit.specs.Records.{nodes_of}
 use Rattle.circuit.proofs.Codes.{length_nodes}
-use Rattle.text.specs.Words.{bytes_of}
 use Rattle.text.specs.declared.words.Word.{Word}
-use Rattle.names.specs.Names.{Entry, lookup}
+use Rattle.names.specs.Names.{Entry}
 use Rattle.names.specs.Chains.{entries}
 use Rattle.reading.specs.Reading.{Places, Held, find, add_name, add_node, add_named, input_node, add_input, add_output}
 use Rattle.reading.specs.Holding.{words_of, output_word, InText}
@@ -29,21 +27,6 @@ length-entries names (suc k) = ap suc (length-entries names k)
 
 pub length-words : (a : List ℕ) (n : ℕ) → length (words_of a n) ≡ n
 length-words a n = length_up (output_word a) 0 n
-
--- ---- a name by its bytes, with the constants first
-
-module _ (t : List ℕ) (w : Word) (es : List Entry) (b : Bool) where
-  pub find-false : b ≡ true → true ≡ same_bytes (bytes_of t w) (70 ∷ 65 ∷ 76 ∷ 83 ∷ 69 ∷ []) → Some 0 ≡ find b t w es
-  unfolding find
-  find-false e p = rw (e, ← p)
-
-  pub find-true : (b && same_bytes (bytes_of t w) (70 ∷ 65 ∷ 76 ∷ 83 ∷ 69 ∷ [])) ≡ false → b ≡ true → true ≡ same_bytes (bytes_of t w) (84 ∷ 82 ∷ 85 ∷ 69 ∷ []) → Some 1 ≡ find b t w es
-  unfolding find
-  find-true n e p = rw (n, e, ← p)
-
-  pub find_other : (b && same_bytes (bytes_of t w) (70 ∷ 65 ∷ 76 ∷ 83 ∷ 69 ∷ [])) ≡ false → (b && same_bytes (bytes_of t w) (84 ∷ 82 ∷ 85 ∷ 69 ∷ [])) ≡ false → lookup t (bytes_of t w) es ≡ find b t w es
-  unfolding find
-  find_other n m = rw (n, m)
 
 -- ---- records
 

@@ -32,7 +32,7 @@ pub fn text_fault(text: &[u8], joined: usize) -> Result<(), Refusal>
     Ok(())
 }
 
-// Zeros everywhere.
+// Zeros everywhere. The four lent areas go one by one, here as in `conclude` and in `format`: a struct of `&mut` owes a clause on each reference in each of these functions.
 pub fn refuse(
     e: Refusal,
     joined: &mut [u8],

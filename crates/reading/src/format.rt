@@ -1,10 +1,10 @@
 // What the readers of joined texts do alike: the text is joined, its lines are read into areas of zeros, and a refusal leaves zeros.
-ghost use Rattle.std.specs.Prelude.{◌≡◌, ℕ, ◌+◌, ◌≤◌, ◌<◌, Bool, List, length, replicate, IfOk};
+ghost use Rattle.std.specs.Prelude.{◌≡◌, ℕ, ◌+◌, ◌≤◌, ◌<◌, Bool, List, length, replicate, IfOk, OnErr};
 ghost use Rattle.circuit.specs.Refusals.{Try, and_then};
 ghost use Rattle.circuit.specs.Circuits.{Circuit};
 ghost use Rattle.names.specs.Chains.{entries};
 ghost use Rattle.reading.specs.Reading.{Places, State, places_in, find, finish};
-ghost use Rattle.reading.specs.Holding.{outcome, state_of, Kept, WordsKept, Ends};
+ghost use Rattle.reading.specs.Holding.{outcome, state_of, Kept, KeptForSome, WordsKept, WordsKeptForSome, Ends};
 ghost use Rattle.reading.specs.Areas.{read_text, Leaves};
 
 use crate::areas::{conclude, prepare, refuse};
@@ -45,7 +45,9 @@ pub trait Format: Names {
         requires kept { Kept text.now heads.old nodes.old names.old (record { nodes = 0; names = 0 }) }
         requires words_kept { WordsKept text.now outputs.old 0 }
         ensures kept_2 { IfOk result (λ r. Kept text.now heads.new nodes.new names.new r.counts) }
+        ensures kept_refused { OnErr result (KeptForSome text.now heads.new nodes.new names.new) }
         ensures words_kept_2 { IfOk result (λ r. WordsKept text.now outputs.new r.outputs) }
+        ensures words_refused { OnErr result (WordsKeptForSome text.now outputs.new) }
         ensures outputs_after { outcome (λ r. state_of nodes.new names.new outputs.new r.counts r.outputs) result ≡ reads text.now (places_in (length nodes.old) (length names.old) (length outputs.old)) };
 
     // The circuit is what the lines give, once the outputs have their wires.

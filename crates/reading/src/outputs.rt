@@ -6,12 +6,14 @@ ghost use Rattle.reading.specs.Reading.{find, add_output};
 ghost use Rattle.reading.specs.Holding.{outcome, output_word, words_of, WordsKept, put_wire, Resolved};
 
 use crate::format::Names;
-use circuit::areas::{put, records_in};
+use crate::records::stretch_name;
+use circuit::areas::{put, put_output, records_in};
+use circuit::records::{BoolWire, Output};
 use circuit::refusals::Refusal;
 use names::NameTable;
 use text::words::Word;
 
-// An output's word takes its place: how many outputs there are then.
+// An output's word takes its place: how many outputs there are then. Of `add_node` and `add_name` it shares the test for room alone.
 pub fn add_output(
     text: &[u8],
     word: Word,
@@ -27,6 +29,7 @@ pub fn add_output(
     if records_in(outputs.len(), 5) <= count {
         return Err(Refusal::NoRoom);
     }
+    // No `Output` is stored: its wire is not known yet, and 0 would be that of a constant.
     put(outputs, count * 5, &[1, word.start, word.len, 0, 0]);
     Ok(count + 1)
 }
@@ -43,7 +46,11 @@ pub fn resolve_at<F: Names>(table: &NameTable, outputs: &mut [usize], j: usize) 
         len: outputs[base + 2],
     };
     let wire = F::find_wire(table, word)?;
-    put(outputs, base, &[1, word.start, word.len, 0, wire]);
+    let output = Output {
+        name: stretch_name(word),
+        wire: BoolWire::from(wire),
+    };
+    put_output(outputs, j, output);
     Some(wire)
 }
 

@@ -28,7 +28,7 @@ pub struct Reading {
     pub outputs: usize,
 }
 
-// A name for the word of a wire: how many names there are then.
+// A name for the word of a wire: how many names there are then. `add_node` and `outputs::add_output` share with it the test for room alone: what each stores, and in what, is its own.
 pub fn add_name(
     text: &[u8],
     word: Word,

@@ -10,12 +10,13 @@ use lib.Bits.{bit_and}
 use lib.Count.{count_leading_zeros, leading_top}
 use lib.Dec.{eqb}
 use lib.ListN.{get_or, drop}
-use lib.Pow.{pow_pos, shl_exact, high, ones_lt}
+use lib.Pow.{pow_pos, high, ones_lt}
 use native.Mathlib.Nat.{pow-suc}
 use borrow.Author.Tests.{eqb-true, eqb-false}
 use Rattle.std.proofs.Math.Bool.{and-true}
 use Rattle.std.proofs.lemmas.Bool.{and_parts, false_from_ne_true}
 use Rattle.laws.specs.Digits.{is_set}
+use Rattle.laws.proofs.Rows.{shifted_one}
 use Rattle.laws.proofs.Digits.{bit-zero, bit-suc, bit_below, bit-and}
 use Rattle.readyset.specs.Sets.{member, Levels, Last}
 use Rattle.readyset.proofs.Levels.{levels_summary, member_at, member-none, zero-none, some-not-zero}
@@ -54,31 +55,19 @@ ones (suc s) (suc b) h =
     let q : (2 ^ suc s - 1) / 2 ≡ 2 ^ s - 1 = omega (arith, pow-suc 2 s, pow_pos s) in
     bit-suc (2 ^ suc s - 1) b ∙ rw q (ones s b (omega arith))
 
-shl_one : (s : ℕ) → s < 64 → 1 * 2 ^ s % 18446744073709551616 ≡ 2 ^ s
-shl_one s h = shl_exact {a = 1} 1 s 64 (omega arith) (omega arith) ∙ one_of (2 ^ s)
-  where
-    one_of : (x : ℕ) → 1 * x ≡ x
-    one_of x = omega arith
-
-pub mask_fits : (s : ℕ) → s < 64 → 1 ≤ 1 * 2 ^ s % 18446744073709551616
-mask_fits s h = omega (arith, shl_one s h, pow_pos s)
-
 module _ (area : List ℕ) (k : ℕ) where
   -- k's own word below k's bit
   abbrev pub before : ℕ
   before = bit_and (get_or area (k / 64) 0) (1 * 2 ^ (k % 64) % 18446744073709551616 - 1)
 
   bits : (b : ℕ) → is_set before b ≡ is_set (get_or area (k / 64) 0) b && is_set (2 ^ (k % 64) - 1) b
-  bits b = bit-and (get_or area (k / 64) 0) (1 * 2 ^ (k % 64) % 18446744073709551616 - 1) b ∙ ap (λ (m : ℕ). is_set (get_or area (k / 64) 0) b && is_set (m - 1) b) (shl_one (k % 64) (omega arith))
+  bits b = bit-and (get_or area (k / 64) 0) (1 * 2 ^ (k % 64) % 18446744073709551616 - 1) b ∙ ap (λ (m : ℕ). is_set (get_or area (k / 64) 0) b && is_set (m - 1) b) (shifted_one 64 (k % 64) (omega arith))
 
   low_bit : (b : ℕ) → b < k % 64 → is_set before b ≡ is_set (get_or area (k / 64) 0) b
   low_bit b h = bits b ∙ ap (λ (t : Bool). is_set (get_or area (k / 64) 0) b && t) (ones (k % 64) b h) ∙ and-true _
 
   set-low : (b : ℕ) → is_set before b ≡ true → b < k % 64
   set-low b h = bit_below (2 ^ (k % 64) - 1) (k % 64) b (ones_lt (k % 64)) (and_parts (is_set (get_or area (k / 64) 0) b) (is_set (2 ^ (k % 64) - 1) b) (sym (bits b) ∙ h)).1
-
-  pub last_start : k ≡ 0 → Last (member area) k 0
-  last_start z = record { upto = omega arith; none = λ j a b. absurd (omega arith); here = λ x e. absurd (omega arith) }
 
   module _ (fits : before < 2 ^ 64) (some : before ≢ 0) where
     pub last_here : Last (member area) k (suc (64 * (k / 64) + (63 - count_leading_zeros 64 before)))

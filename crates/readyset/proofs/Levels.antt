@@ -10,7 +10,7 @@ use lib.Dec.{eqb, ltb}
 use lib.ListN.{length, get_or, set, drop, take, length-set, length-drop}
 use lib.Seq.{get_or-set_same, get_or-set_other, get_or-drop, drop-set-lt}
 use lib.Pow.{shr_le}
-use borrow.Rule.Slice.PartMut.{put_mid, mid_of, same_len_mid}
+use borrow.Rule.Slice.PartMut.{put_mid, mid_of}
 use lib.Count.{count_trailing_zeros}
 use borrow.Author.Tests.{eqb-true, eqb-false, eq-eqb, ne_eqb, ltb-true, ltb-false}
 use Rattle.std.proofs.lemmas.List.{take_rest}
@@ -50,9 +50,6 @@ pub some-not-zero : (area : List ℕ) (n w : ℕ) → Summary area n → w < n /
 some-not-zero area n w s h e z = false≢true (ap not (sym (eq-eqb (get_or area w 0) 0 z)) ∙ sym (s w h) ∙ e)
 
 -- ---- the next member
-
-pub first_end : (p : ℕ → Bool) (k n : ℕ) → k ≤ n → n ≤ k → First p k n n
-first_end p k n h l = record { from = h; none = λ j a b c. absurd (omega arith); here = λ z. absurd (omega arith) }
 
 module _ (area : List ℕ) (n k : ℕ) where
   -- k's own word from k's bit on
@@ -182,9 +179,6 @@ module _ (area : List ℕ) (n k v : ℕ) (room : n ≤ length area) (below : k <
   rest_same : drop (n / 64 + 1) (set area (k / 64) v) ≡ drop (n / 64 + 1) area
   rest_same = drop-set-lt (n / 64 + 1) area (k / 64) v (omega arith)
 
-  pub part-start : n / 64 + 1 ≤ n → n / 64 + 1 ≤ length (set area (k / 64) v)
-  part-start h = omega (arith, length-set area (k / 64) v)
-
   module _ (big : 64 ≤ n) where
     pub part_room : n / 64 + 1 ≤ length (take (length (set area (k / 64) v) - (n / 64 + 1)) (drop (n / 64 + 1) (set area (k / 64) v)))
     part_room = rest_room n (set area (k / 64) v) big (omega (arith, length-set area (k / 64) v))
@@ -290,6 +284,3 @@ flips_by up x b v t n = go up t (eqb x 0) (eqb v 0) refl refl n
 module _ (up : Bool) (area : List ℕ) (n k v : ℕ) (room : n ≤ length area) (below : k < n) (levels : Levels area n) (bits : Turned up (get_or area (k / 64) 0) (k % 64) v) where
   pub mark_rest : 64 ≤ n → (part : List ℕ) → Marked up (mid_of (n / 64 + 1) (length (set area (k / 64) v) - (n / 64 + 1)) (set area (k / 64) v)) (n / 64 + 1) (k / 64) part → eqb v 0 ≢ eqb (get_or area (k / 64) 0) 0 → Marked up area n k (put_mid (n / 64 + 1) (length (set area (k / 64) v) - (n / 64 + 1)) (set area (k / 64) v) part)
   mark_rest big part by h = mark_deep up area n k v room below levels bits big part by (flips_by up (get_or area (k / 64) 0) (k % 64) v bits h)
-
-pub put_length : (area : List ℕ) (w v m : ℕ) (part : List ℕ) → length part ≡ length (mid_of m (length (set area w v) - m) (set area w v)) → length (put_mid m (length (set area w v) - m) (set area w v) part) ≡ length area
-put_length area w v m part e = same_len_mid m (length (set area w v) - m) (set area w v) part e ∙ length-set area w v

@@ -31,7 +31,7 @@ pub fn next(area: &[usize], n: usize, k: usize) -> Option<usize>
     (there < n).then_some(there)
 }
 
-// The last member below k.
+// The last member below k. Beside `next`: one function over both would take the mask, the bit that is looked for and the word to go on from, longer than the two.
 pub fn last(area: &[usize], n: usize, k: usize) -> Option<usize>
     requires { (n ≤ length area.now) × (k ≤ n) × Levels area.now n }
     ensures { LastIs (member area.now) k result }

@@ -5,18 +5,18 @@ use Rattle.circuit.specs.declared.records.Sizes.{Sizes}
 use Prim.Native.Nat.{ℕ}
 use mathlib.Core.Path.{◌≡◌, refl, sym, ap, ◌∙◌}
 use mathlib.Core.List.{List}
-use Rattle.circuit.specs.Refusals.{Try}
+use Rattle.circuit.specs.Refusals.{Try, checked_number}
 use Rattle.circuit.specs.Circuits.{Circuit}
 use Rattle.reading.specs.Areas.{Leaves}
 use Rattle.bristol.specs.Bristol as bristol
 use Rattle.bristol.specs.Promises as bristolContracts
 use Rattle.schedule.specs.Call as schedule
 use Rattle.runs.specs.Calls.{call_result, numbered_result}
-use Rattle.relay.specs.Answers.{read_number, read_nodes, read_outputs, ReadGives, JoinedCall, BristolCall, count_number, count_of, CountGives, OrderCall, result_of, assigned}
+use Rattle.relay.specs.Answers.{read_nodes, read_outputs, ReadGives, JoinedCall, BristolCall, count_of, CountGives, OrderCall, result_of, assigned}
 
 gives_same : (a b : Try Sizes) (number n m : ℕ) → a ≡ b → ReadGives a number n m → ReadGives b number n m
 gives_same a b number n m e g = record {
-  number_is = g.number_is ∙ ap read_number e;
+  number_is = g.number_is ∙ ap checked_number e;
   nodes_are = g.nodes_are ∙ ap read_nodes e;
   outputs_are = g.outputs_are ∙ ap read_outputs e;
 }
@@ -37,7 +37,7 @@ pub order_call : (left : schedule.Left) (ordered : Try ℕ) (number cells : ℕ)
 order_call left ordered number cells ready successors order e g =
     let answer : ordered ≡ left.answer = ap (λ (l : schedule.Left). l.answer) e in
     record {
-      gives = record { number_is = g.number_is ∙ ap count_number answer; count_is = g.count_is ∙ ap count_of answer };
+      gives = record { number_is = g.number_is ∙ ap checked_number answer; count_is = g.count_is ∙ ap count_of answer };
       leaves = ap (λ (x : Try ℕ). schedule.leaves x ready successors order) (sym answer) ∙ e;
     }
 

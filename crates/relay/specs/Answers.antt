@@ -2,7 +2,7 @@
 -- Assumes nothing.
 use Rattle.std.specs.Prelude.{ℕ, ◌≡◌, List, Ok, Err}
 use Rattle.circuit.specs.declared.records.Sizes.{Sizes}
-use Rattle.circuit.specs.Refusals.{number_of, Try}
+use Rattle.circuit.specs.Refusals.{Try, checked_number}
 use Rattle.circuit.specs.Circuits.{Circuit, read_answer}
 use Rattle.reading.specs.Areas.{Leaves}
 use Rattle.bristol.specs.Bristol as bristol
@@ -11,11 +11,6 @@ use Rattle.schedule.specs.Call as schedule
 use Rattle.runs.specs.Calls.{Result, Assigned}
 
 -- ---- the readers
-
--- "A refusal returns its number, any other result 0"
-abbrev pub read_number : Try Sizes → ℕ
-read_number (Ok s) = 0
-read_number (Err e) = number_of e
 
 -- the number of nodes, and of outputs: 0 on a refusal
 abbrev pub read_nodes : Try Sizes → ℕ
@@ -27,7 +22,7 @@ read_outputs (Ok s) = s.outputs
 read_outputs (Err e) = 0
 
 pub record ReadGives (read : Try Sizes) (number nodes outputs : ℕ) : Type 0 where
-  pub number_is : number ≡ read_number read
+  pub number_is : number ≡ checked_number read
   pub nodes_are : nodes ≡ read_nodes read
   pub outputs_are : outputs ≡ read_outputs read
 
@@ -43,17 +38,13 @@ pub record BristolCall (left : bristol.Left) (number node_count output_count : �
 
 -- ---- the calls that count cells, outputs or inputs
 
-abbrev pub count_number : Try ℕ → ℕ
-count_number (Ok n) = 0
-count_number (Err e) = number_of e
-
 -- how many there are: 0 on a refusal
 abbrev pub count_of : Try ℕ → ℕ
 count_of (Ok n) = n
 count_of (Err e) = 0
 
 pub record CountGives (counted : Try ℕ) (number count : ℕ) : Type 0 where
-  pub number_is : number ≡ count_number counted
+  pub number_is : number ≡ checked_number counted
   pub count_is : count ≡ count_of counted
 
 -- ---- the schedule

@@ -6,15 +6,17 @@ ghost use Rattle.relay.specs.Answers.{ReadGives, CountGives};
 use circuit::records::Sizes;
 use circuit::refusals::Refusal;
 
-pub fn answer_checked(checked: Result<(), Refusal>) -> usize
-    ensures { result ≡ checked_number checked }
+// 0, or the refusal's number.
+pub fn answer_number<T: Copy>(answer: Result<T, Refusal>) -> usize
+    ensures { result ≡ checked_number answer }
 {
-    match checked {
-        Ok(()) => 0,
+    match answer {
+        Ok(_) => 0,
         Err(e) => usize::from(e),
     }
 }
 
+// Of the readers.
 pub fn answer_read(
     read: Result<Sizes, Refusal>,
     node_count: &mut usize,
@@ -22,32 +24,19 @@ pub fn answer_read(
 ) -> usize
     ensures { ReadGives read result node_count.new output_count.new }
 {
-    match read {
-        Ok(Sizes { nodes, outputs }) => {
-            *node_count = nodes;
-            *output_count = outputs;
-            0
-        }
-        Err(e) => {
-            *node_count = 0;
-            *output_count = 0;
-            usize::from(e)
-        }
-    }
+    let Sizes { nodes, outputs } = read.unwrap_or(Sizes {
+        nodes: 0,
+        outputs: 0,
+    });
+    *node_count = nodes;
+    *output_count = outputs;
+    answer_number(read)
 }
 
 // Of the calls that count cells, outputs or inputs.
 pub fn answer_counted(counted: Result<usize, Refusal>, count: &mut usize) -> usize
     ensures { CountGives counted result count.new }
 {
-    match counted {
-        Ok(n) => {
-            *count = n;
-            0
-        }
-        Err(e) => {
-            *count = 0;
-            usize::from(e)
-        }
-    }
+    *count = counted.unwrap_or(0);
+    answer_number(counted)
 }

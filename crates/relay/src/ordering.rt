@@ -5,7 +5,7 @@ ghost use Rattle.circuit.specs.Check.{topological_fault};
 ghost use Rattle.schedule.specs.Call.{schedule_call};
 ghost use Rattle.relay.specs.Answers.{OrderCall};
 
-use crate::answers::{answer_checked, answer_counted};
+use crate::answers::{answer_counted, answer_number};
 use circuit::check::validate_topological;
 use schedule::scheduled_gates_by_key;
 
@@ -15,7 +15,7 @@ pub extern "C" fn relay_validate_topological(nodes: &[usize], outputs: &[usize])
     ensures { result ≡ checked_number (topological_fault nodes.now outputs.now) }
 {
     let checked = validate_topological(nodes, outputs);
-    answer_checked(checked)
+    answer_number(checked)
 }
 
 // The order of the cells in the first records of `order`; `ready` and `successors` are work areas.

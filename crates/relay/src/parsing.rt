@@ -27,7 +27,7 @@ pub extern "C" fn relay_parse_blif(
     answer_read(read, node_count, output_count)
 }
 
-// A BENCH text, into the same areas.
+// A BENCH text, into the same areas. Written out beside BLIF's: a function that C calls has no type parameter.
 #[unsafe(no_mangle)]
 pub extern "C" fn relay_parse_bench(
     text: &[u8],

@@ -22,6 +22,7 @@ use Rattle.runs.specs.Fit.{Accepted}
 use Rattle.runs.specs.Work.{mark_count}
 use Rattle.runs.specs.Steps.{Steppable, Standing, fit_from, Through, Walked, Unnamed, OthersKept, MarkedAgain}
 use Rattle.runs.proofs.Marks.{marks_more, marks_same}
+use Rattle.runs.proofs.Parts.{part, part_length, part_at}
 use Rattle.runs.proofs.Through.{stopped_at, through_is, through_stopped}
 
 -- ---- the values of other nodes
@@ -29,9 +30,6 @@ use Rattle.runs.proofs.Through.{stopped_at, through_is, through_stopped}
 module _ (count : ℕ) (order : List ℕ) (from : ℕ) where
   pub others_none : (s : List ℕ) → OthersKept count order from from s s
   others_none s = record { at = λ k h. refl }
-
-  pub others_more : (i end : ℕ) (v s : List ℕ) → i ≤ end → OthersKept count order from i v s → OthersKept count order from end v s
-  others_more i end v s g o = record { at = λ k h. o.at k (λ d j a b. h d j a (omega (arith, b, g))) }
 
   -- one entry more
   pub others_next : (i : ℕ) (v s after : List ℕ) → from ≤ i → OthersKept count order from i v s
@@ -53,9 +51,23 @@ module _ (count : ℕ) (order : List ℕ) (from : ℕ) where
           let ne : j ≡ i → ⊥ = λ z. e (ap (λ (k : ℕ). get_or order k 0) z) in
           f (get_or order j 0) (λ h. e) ∙ n j a (omega (arith, b, ne)) d
 
-  -- the same of a step, which writes to its node alone
-  pub others_step : (i : ℕ) (v s after : List ℕ) → from ≤ i → OthersKept count order from i v s → get_or order i 0 < count → ((k : ℕ) → (k ≡ get_or order i 0 → ⊥) → get_or after k 0 ≡ get_or s k 0) → OthersKept count order from (i + 1) v after
-  others_step i v s after g o d f = others_next i v s after g o (λ k h. f k (λ e. h (omega (arith, e, d)) e))
+-- what a stretch's entries leave, told of the list that it is of
+pub marked_part : (count : ℕ) (order : List ℕ) (from end : ℕ) (v after : List ℕ) → end ≤ length order → MarkedAgain count (part order from end) 0 (length (part order from end)) v after → MarkedAgain count order from end v after
+marked_part count order from end v after g m = record { others = record { at = others }; named = named }
+  where
+    size : length (part order from end) ≡ end - from
+    size = part_length order from end g
+
+    others : (k : ℕ) → (k < count → Unnamed order from end k) → get_or after k 0 ≡ get_or v k 0
+    others k h = m.others.at k (λ d j a b e.
+        let l : from + j < end = omega (arith, b, size) in
+        h d (from + j) (omega arith) l (sym (part_at order from end j l) ∙ e))
+
+    named : (j : ℕ) → from ≤ j → j < end → get_or order j 0 < count → get_or after (get_or order j 0) 0 ≡ 144
+    named j a b d =
+        let i : from + (j - from) ≡ j = omega (arith, a) in
+        let e : get_or (part order from end) (j - from) 0 ≡ get_or order j 0 = part_at order from end (j - from) (omega (arith, a, b)) ∙ ap (λ (n : ℕ). get_or order n 0) i in
+        ap (λ (x : ℕ). get_or after x 0) (sym e) ∙ m.named (j - from) (omega arith) (omega (arith, a, b, size)) (omega (arith, e, d))
 
 -- ---- what stood before
 

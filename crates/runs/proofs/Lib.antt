@@ -1,4 +1,5 @@
 pub mod NodeValues
+pub mod WireValues
 pub mod Storage
 pub mod Along
 pub mod Stepping

@@ -1,5 +1,7 @@
 -- The marks of a block: a bit for each node, and what an entry of a list gives by them.
 -- Assumes nothing.
+use Rattle.std.specs.Prelude.{Option, MatchOption}
+use Rattle.std.specs.Bool.{then_some}
 use mathlib.Core.Path.{◌≡◌, refl, sym, ap, ap₂, ◌∙◌}
 use mathlib.Core.Logic.{◌≢◌}
 use mathlib.Core.List.{List, [], ◌∷◌, ◌++◌}
@@ -8,7 +10,7 @@ use Prim.Native.Nat.{ℕ, ◌+◌, ◌-◌, ◌*◌, ◌/◌, ◌%◌, ◌^◌, 
 use native.Mathlib.Nat.{add-zero, zero-div}
 use native.Mathlib.Omega.{arith}
 use lib.Dec.{eqb, leb, ltb}
-use borrow.Author.Tests.{lt-leb, le-leb, le-ltb, lt-ltb, eq-eqb, ne_eqb, leb-true, ltb-true, leb-false, eqb-true, eqb-false}
+use borrow.Author.Tests.{lt-leb, le-leb, le-ltb, lt-ltb, eq-eqb, ne_eqb, leb-true, ltb-true, ltb-false, leb-false, eqb-true, eqb-false}
 use lib.ListN.{length, get_or, set, replicate, length-set}
 use lib.Seq.{get_or-set_same, get_or-set_other}
 use Rattle.std.proofs.lemmas.Bool.{and_parts, false_from_ne_true, or_parts}
@@ -27,6 +29,7 @@ use Rattle.circuit.specs.Graph.{nodes_read, graph_of, is_cell, reads_of, waits}
 use Rattle.circuit.proofs.Graph.{cell_below}
 use Rattle.circuit.proofs.Codes.{node_of, length_nodes}
 use Rattle.circuit.proofs.Circuits.{cell-at, reads_at, length_graph}
+use Rattle.cells.specs.Cells.{entry}
 use Rattle.runs.specs.Fit.{free_in, ready_in, within, block_size, mark_of, Marks, waits_here, some_waits}
 
 -- ---- the block
@@ -35,7 +38,7 @@ pub low_out : (lo size k : ℕ) → k < lo → within lo size k ≡ false
 unfolding within
 low_out lo size k h = ap (λ (b : Bool). b && ltb k (lo + size)) (lt-leb lo k h)
 
-pub high_out : (lo size k : ℕ) → lo ≤ k → size ≤ k - lo → within lo size k ≡ false
+high_out : (lo size k : ℕ) → lo ≤ k → size ≤ k - lo → within lo size k ≡ false
 unfolding within
 high_out lo size k h g = ap₂ ◌&&◌ (le-leb lo k h) (le-ltb k (lo + size) (omega arith))
 
@@ -47,6 +50,15 @@ in_block : (lo size k : ℕ) → within lo size k ≡ true → (lo ≤ k) × (k 
 unfolding within
 in_block lo size k h = let g = and_parts (leb lo k) (ltb k (lo + size)) h in (leb-true lo k g.0, ltb-true k (lo + size) g.1)
 
+-- where the mark of a number stands
+pub place_told : (lo : ℕ) (marks : List ℕ) (x i : ℕ) → lo ≤ x → i ≡ x - lo → {r : Option (ℕ × ℕ)} (b : Bool) → r ≡ then_some b (i / 64, i % 64) → ltb (i / 64) (length marks) ≡ b
+    → MatchOption r (within lo (block_size marks) x ≡ false) (λ p. (lo ≤ x) × (p.0 ≡ (x - lo) / 64) × (p.1 ≡ (x - lo) % 64) × ((x - lo) / 64 < length marks))
+place_told lo marks x i g e true s l = rw s (g, ap (λ (j : ℕ). j / 64) e, ap (λ (j : ℕ). j % 64) e, omega (arith, e, ltb-true (i / 64) (length marks) l))
+place_told lo marks x i g e false s l = rw s (high_out lo (block_size marks) x g (omega (arith, e, ltb-false (i / 64) (length marks) l)))
+
+pub mark_there : (marks : List ℕ) (i w j : ℕ) → w ≡ i / 64 → j ≡ i % 64 → entry (get_or marks w 0) j ≡ mark_of marks i
+mark_there marks i w j p q = ap₂ (λ (m n : ℕ). entry (get_or marks m 0) n) p q
+
 -- ---- a read by the marks
 
 module _ (nodes : List ℕ) (lo : ℕ) (marks : List ℕ) (k : ℕ) where
@@ -55,9 +67,9 @@ module _ (nodes : List ℕ) (lo : ℕ) (marks : List ℕ) (k : ℕ) where
   here_out h = rw h
 
   module _ (h : within lo (block_size marks) k ≡ true) where
-    pub here_clear : mark_of marks (k - lo) ≡ 0 → eqb (get_or nodes (k * 9) 0) 2 ≡ waits_here nodes lo marks k
-    unfolding waits_here
-    here_clear e = rw (h, eq-eqb (mark_of marks (k - lo)) 0 e)
+    pub here_clear : mark_of marks (k - lo) ≡ 0 → is_cell_node (node_at nodes k) ≡ waits_here nodes lo marks k
+    unfolding waits_here is_cell_node
+    here_clear e = rw (h, eq-eqb (mark_of marks (k - lo)) 0 e) (ap (λ (j : ℕ). eqb (get_or nodes j 0) 2) (add-zero (k * 9)))
 
     pub here_marked : (mark_of marks (k - lo) ≡ 0 → ⊥) → false ≡ waits_here nodes lo marks k
     unfolding waits_here

@@ -1,7 +1,10 @@
 -- The laws of a store's marks: how many there are, and that steps for all of them pass the circuit check.
 -- Assumes nothing.
 use mathlib.Core.Path.{◌≡◌, refl, sym, ap, ◌∙◌, subst}
-use mathlib.Core.List.{List, []}
+use mathlib.Core.List.{List, [], ◌∷◌}
+use Rattle.std.specs.List.{fold}
+use Rattle.std.specs.Ordering.{ord_max, nat_cmp}
+use Rattle.std.proofs.lemmas.Grind.{common_steps}
 use mathlib.Core.Bool.{Bool, true, false, cond}
 use Prim.Native.Nat.{ℕ, zero, suc, ◌+◌, ◌<◌, ◌≤◌, zero-le}
 use native.Mathlib.Numerals.{add-one}
@@ -151,13 +154,25 @@ marks_top n top s h g = go (ltb top 3) refl
     go true e = marks_zero n s (λ k l. omega (arith, h k l, ltb-true top 3 e))
     go false e = λ z. omega (arith, g z, ltb-false top 3 e)
 
--- that number, one value on
-pub top_next : (s : List ℕ) (k top next : ℕ) → ((j : ℕ) → j < k → get_or s j 0 ≤ top) → top ≤ next → get_or s k 0 ≤ next → (j : ℕ) → j < k + 1 → get_or s j 0 ≤ next
-top_next s k top next h g l j i = go (eqb j k) refl
+-- the greatest value of a list, or a number that is greater
+greater : (a b : ℕ) → (a ≤ ord_max nat_cmp a b) × (b ≤ ord_max nat_cmp a b) × (a < 3 → b < 3 → ord_max nat_cmp a b < 3)
+greater a b = go (ord_max nat_cmp a b) refl
   where
-    go : (b : Bool) → eqb j k ≡ b → get_or s j 0 ≤ next
-    go true q = subst (λ (m : ℕ). get_or s m 0 ≤ next) (sym (eqb-true j k q)) l
-    go false q = let z = h j (omega (arith, i, eqb-false j k q)) in omega (arith, z, g)
+    go : (r : ℕ) → r ≡ ord_max nat_cmp a b → (a ≤ r) × (b ≤ r) × (a < 3 → b < 3 → r < 3)
+    go r e = (grind (arith, common_steps), grind (arith, common_steps), λ p q. grind (arith, common_steps))
+
+fold_from : (a : ℕ) (l : List ℕ) → a ≤ fold (ord_max nat_cmp) a l
+fold_from a [] = omega arith
+fold_from a (x ∷ l) = omega (arith, (greater a x).0, fold_from (ord_max nat_cmp a x) l)
+
+pub fold_above : (a : ℕ) (l : List ℕ) (k : ℕ) → k < length l → get_or l k 0 ≤ fold (ord_max nat_cmp) a l
+fold_above a [] k h = absurd (omega (arith, h))
+fold_above a (x ∷ l) zero h = omega (arith, (greater a x).1, fold_from (ord_max nat_cmp a x) l)
+fold_above a (x ∷ l) (suc k) h = fold_above (ord_max nat_cmp a x) l k (omega (arith, h))
+
+pub fold_small : (a : ℕ) (l : List ℕ) → a < 3 → ((k : ℕ) → k < length l → get_or l k 0 < 3) → fold (ord_max nat_cmp) a l < 3
+fold_small a [] h g = h
+fold_small a (x ∷ l) h g = fold_small (ord_max nat_cmp a x) l ((greater a x).2 h (g 0 (omega arith))) (λ k i. g (suc k) (omega (arith, i)))
 
 cond_count : (b : Bool) (w : ℕ) → cond b (suc w) w + cond b 0 1 ≡ suc w
 cond_count true w = omega arith

@@ -1,13 +1,13 @@
 -- The values of nodes one after the other, by any rule of a cell's value: what stands at the end goes on from what is before it.
 -- Assumes nothing.
-use Prim.Native.Nat.{ℕ, suc, ◌+◌}
+use Prim.Native.Nat.{ℕ, suc, ◌+◌, ◌<◌}
 use mathlib.Core.Path.{◌≡◌, refl, sym, ap, ◌∙◌}
 use mathlib.Core.Bool.{Bool, true, false, cond}
 use mathlib.Core.List.{List, [], ◌∷◌, ◌++◌}
 use native.Mathlib.Nat.{add-zero, zero-add}
 use native.Mathlib.Omega.{arith}
 use lib.ListN.{length, get_or}
-use Rattle.laws.proofs.Filling.{cond_both, length_snoc}
+use Rattle.laws.proofs.Filling.{cond_both, length_snoc, snoc_below}
 use Rattle.circuit.specs.declared.records.BoolNode.{BoolNode}
 use Rattle.circuit.specs.Records.{is_cell_node}
 use Rattle.runs.specs.Values.{values_from}
@@ -57,3 +57,12 @@ module _ (rule : List ℕ → BoolNode → ℕ) (a : List ℕ) where
 
   pub length-values : (ns : List BoolNode) → length (values_from rule a 0 [] ns) ≡ length ns
   length-values ns = length_from ns 0 [] ∙ zero-add (length ns)
+
+  -- values that stand stay
+  pub values_stay : (ns : List BoolNode) (p : ℕ) (vs : List ℕ) (k : ℕ) → k < length vs → get_or (values_from rule a p vs ns) k 0 ≡ get_or vs k 0
+  unfolding values_from
+  values_stay [] p vs k h = refl
+  values_stay (n ∷ ns) p vs k h =
+      cond_both (λ (l : List ℕ). get_or l k 0 ≡ get_or vs k 0) (is_cell_node n) _ _
+      (values_stay ns p (vs ++ rule vs n ∷ []) k (omega (arith, length_snoc vs (rule vs n))) ∙ snoc_below vs (rule vs n) k h)
+      (values_stay ns (suc p) (vs ++ get_or a p 0 ∷ []) k (omega (arith, length_snoc vs (get_or a p 0))) ∙ snoc_below vs (get_or a p 0) k h)

@@ -105,10 +105,6 @@ pub byte_of : (b : Bool) → bool_byte b ≡ cond b 1 0
 byte_of true = refl
 byte_of false = refl
 
-pub byte_small : (b : Bool) → bool_byte b ≤ 1
-byte_small true = omega arith
-byte_small false = omega arith
-
 -- the number of inputs, or the refusal where some record breaks a rule
 abbrev pub pass : List ℕ → ℕ → Try ℕ
 pass nodes count = cond (some_broken count (nodes_of nodes count)) (Err Broken) (Ok (input_count (nodes_of nodes count)))

@@ -1,6 +1,7 @@
 -- The laws of a pass that checks the nodes on its way, and of the calls whose refusal is looked for after their work.
 -- Assumes nothing.
-use Rattle.std.specs.Prelude.{Ok}
+use Rattle.std.specs.Prelude.{⊤, Ok, Option, is_some, IsSome}
+use Rattle.std.specs.Bool.{then_some}
 use mathlib.Core.Path.{◌≡◌, refl, sym, ap, ◌∙◌}
 use mathlib.Core.List.{List, [], ◌∷◌}
 use mathlib.Core.Bool.{Bool, true, false, not}
@@ -26,6 +27,11 @@ use Rattle.runs.specs.Calls.{room_fault, evaluate_fault}
 use Rattle.runs.proofs.Calls.{right_length, has_room, Room, accepted_nodes, outputs_wired, well_assigned, evaluate_assigned, evaluates_of}
 
 -- ---- what a test's answer tells
+
+-- an answer that a test alone gives
+pub tells_then : (P Q : Type 0) {r : Option ⊤} (b : Bool) → r ≡ then_some b tt → Tells b P × (b ≡ true → Q) → Tells (is_some r) P × (IsSome r → Q)
+tells_then P Q true e t = rw e t
+tells_then P Q false e t = rw e t
 
 pub told : {P : Type 0} (r : Bool) → Tells r P → r ≡ true → P
 told true p e = p

@@ -41,8 +41,8 @@ module _ (x : ℕ) (n : BoolNode) (s : List ℕ) where
   no_place : (Ready x n s → ⊥) → PlaceOf x n s 144
   no_place h = record { found = λ g. absurd (omega (arith, g)); answer = λ g answers a. absurd (omega (arith, g)); missed = λ g r. h r }
 
-  pub broken_place : true ≡ node_broken x n → PlaceOf x n s 144
-  broken_place e = no_place (λ r. clash (sym e) r.sound)
+  pub broken_place : (is_cell_node n ≡ true → true ≡ node_broken x n) → PlaceOf x n s 144
+  broken_place h = no_place (λ r. clash (sym (h r.cell)) r.sound)
 
   module _ (g : Graded s) (kind : n.kind ≡ 2) (v : ℕ) (p : v ≡ signal_value s n.first) (f : not_below x n.first ≡ false) where
     cell : is_cell_node n ≡ true

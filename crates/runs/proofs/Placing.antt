@@ -1,12 +1,14 @@
 -- The laws of putting an assignment into a marked store: a turn of the loop over the nodes, and its ends.
 -- Assumes nothing.
+use Rattle.std.specs.Prelude.{⊤, Option, IsSome}
+use Rattle.std.specs.Bool.{then_some}
 use mathlib.Core.Path.{◌≡◌, refl, sym, ap, ◌∙◌, subst}
 use mathlib.Core.List.{List, [], ◌∷◌}
-use mathlib.Core.Bool.{Bool, true, false, cond}
+use mathlib.Core.Bool.{Bool, true, false, cond, false≢true}
 use Prim.Native.Nat.{ℕ, suc, ◌+◌, ◌<◌, ◌≤◌, zero-le}
 use native.Mathlib.Omega.{arith}
-use lib.Dec.{eqb}
-use borrow.Author.Tests.{eqb-true, eqb-false, ne_eqb}
+use lib.Dec.{eqb, leb}
+use borrow.Author.Tests.{eqb-true, eqb-false, ne_eqb, leb-true, leb-false}
 use lib.ListN.{length, get_or, set, length-set}
 use lib.Seq.{get_or-set_same, get_or-set_other}
 use Rattle.std.proofs.lemmas.Bool.{cond-false, cond-true, true_from_ne_false}
@@ -148,8 +150,14 @@ module _ (nodes : List ℕ) (count : ℕ) (assignment before : List ℕ) where
     pub put_whole : length assignment ≤ p → Passing nodes count assignment → s ≡ put_in assignment 0 0 before (nodes_of nodes count)
     put_whole l b = let g = w.passing b in sym (g.0 ∙ put_none assignment (from nodes count k) p k s (omega (arith, g.1, l)))
 
-    pub put_done : count ≤ k → Passing nodes count assignment → length assignment ≤ p
+    put_done : count ≤ k → Passing nodes count assignment → length assignment ≤ p
     unfolding input_count
     put_done h b =
         let z : input_count (from nodes count k) ≡ input_count [] = ap input_count (from_end nodes count k h) in
         omega (arith, (w.passing b).1, z)
+
+    -- what is told of it once the nodes are passed
+    pub put_told : count ≤ k → {r : Option ⊤} (b : Bool) → r ≡ then_some b tt → leb (length assignment) p ≡ b
+        → (IsSome r → InputsIn nodes count assignment s) × (Passing nodes count assignment → IsSome r × (s ≡ put_in assignment 0 0 before (nodes_of nodes count)))
+    put_told h true e l = let g = leb-true (length assignment) p l in rw e (λ q. put_end g, λ b. (refl, put_whole g b))
+    put_told h false e l = rw e (λ q. absurd (false≢true q), λ b. absurd (omega (arith, put_done h b, leb-false (length assignment) p l)))

@@ -21,6 +21,7 @@ use Rattle.cells.specs.Cells.{index_from, cell_rule}
 use Rattle.cells.proofs.Rule.{Each, Agree, rule_keeps, rule_known, entry-bit}
 use Rattle.runs.specs.Values.{signal_value, answer_of, values_from, outputs_from, storage_values, storage_outputs, entry_of, evaluated}
 use Rattle.runs.specs.Runs.{put_in}
+use Rattle.runs.proofs.NodeValues.{values_stay}
 
 -- ---- more that is known
 
@@ -135,16 +136,6 @@ outputs_known ns os a h = wires_known (values_from entry_of a 0 [] ns) (values_k
 
 -- ---- what each node's value is
 
-module _ (a : List ℕ) where
-  -- values that stand stay
-  pub values_stay : (ns : List BoolNode) (p : ℕ) (vs : List ℕ) (k : ℕ) → k < length vs → get_or (values_from answer_of a p vs ns) k 0 ≡ get_or vs k 0
-  unfolding values_from
-  values_stay [] p vs k h = refl
-  values_stay (n ∷ ns) p vs k h =
-      cond_both (λ (l : List ℕ). get_or l k 0 ≡ get_or vs k 0) (is_cell_node n) _ _
-      (values_stay ns p (vs ++ answer_of vs n ∷ []) k (omega (arith, length_snoc vs (answer_of vs n))) ∙ snoc_below vs (answer_of vs n) k h)
-      (values_stay ns (suc p) (vs ++ get_or a p 0 ∷ []) k (omega (arith, length_snoc vs (get_or a p 0))) ∙ snoc_below vs (get_or a p 0) k h)
-
 -- two stores that agree below k give a wire below k the same, and a cell that reads only below k
 pub wire_below : (s t : List ℕ) (k : ℕ) → ((i : ℕ) → i < k → get_or s i 0 ≡ get_or t i 0) → (w : BoolWire) → not_below k w ≡ false → signal_value s w ≡ signal_value t w
 wire_below s t k e (Const b) g = refl
@@ -171,9 +162,9 @@ module _ (a : List ℕ) where
       let x = answer_of vs n in
       let A = values_from answer_of a p (vs ++ x ∷ []) ns in
       let w : values_from answer_of a p vs (n ∷ ns) ≡ A = ap (λ (t : Bool). cond t A (values_from answer_of a (suc p) (vs ++ get_or a p 0 ∷ []) ns)) c in
-      let stay : (i : ℕ) → i < length vs → get_or vs i 0 ≡ get_or A i 0 = λ i g. sym (values_stay a ns p (vs ++ x ∷ []) i (omega (arith, length_snoc vs x)) ∙ snoc_below vs x i g) in
+      let stay : (i : ℕ) → i < length vs → get_or vs i 0 ≡ get_or A i 0 = λ i g. sym (values_stay answer_of a ns p (vs ++ x ∷ []) i (omega (arith, length_snoc vs x)) ∙ snoc_below vs x i g) in
       subst (λ (W : List ℕ). get_or W (length vs + 0) 0 ≡ answer_of W n) (sym w)
-      (ap (λ (i : ℕ). get_or A i 0) (add-zero (length vs)) ∙ values_stay a ns p (vs ++ x ∷ []) (length vs) (omega (arith, length_snoc vs x)) ∙ snoc_last vs x
+      (ap (λ (i : ℕ). get_or A i 0) (add-zero (length vs)) ∙ values_stay answer_of a ns p (vs ++ x ∷ []) (length vs) (omega (arith, length_snoc vs x)) ∙ snoc_last vs x
       ∙ answer_below vs A (length vs) stay n (subst (λ (i : ℕ). some_not_below i (wires_of n) ≡ false) (add-zero (length vs)) e))
   value_cell (n ∷ ns) p vs (suc j) h c e =
       cond_both (λ (W : List ℕ). get_or W (length vs + suc j) 0 ≡ answer_of W (get_or ns j no_node)) (is_cell_node n) _ _
@@ -215,7 +206,7 @@ module _ (a : List ℕ) where
       let w : values_from answer_of a p vs (n ∷ ns) ≡ U = ap (λ (t : Bool). cond t (values_from answer_of a p (vs ++ answer_of vs n ∷ []) ns) U) c in
       let at : k + 0 ≡ k = add-zero k in
       let left : get_or S k 0 ≡ x = put_stay ns (suc p) (suc k) (set s k x) k (omega arith) ∙ get_or-set_same s k x 0 (omega arith) in
-      let right : get_or U k 0 ≡ x = ap (λ (i : ℕ). get_or U i 0) q ∙ values_stay a ns (suc p) (vs ++ x ∷ []) (length vs) (omega (arith, length_snoc vs x)) ∙ snoc_last vs x in
+      let right : get_or U k 0 ≡ x = ap (λ (i : ℕ). get_or U i 0) q ∙ values_stay answer_of a ns (suc p) (vs ++ x ∷ []) (length vs) (omega (arith, length_snoc vs x)) ∙ snoc_last vs x in
       ap₂ (λ (W : List ℕ) (i : ℕ). get_or W i 0) u at ∙ left ∙ sym right ∙ sym (ap₂ (λ (W : List ℕ) (i : ℕ). get_or W i 0) w at)
   value_input (n ∷ ns) p vs s k (suc j) q l h c =
       let x = get_or a p 0 in

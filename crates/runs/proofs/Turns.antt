@@ -1,14 +1,15 @@
 -- What accepted nodes have, a turn of each loop over nodes, entries and outputs, and what the words of a record say.
 -- Assumes nothing.
-use mir.Val.{bool_byte}
 use mathlib.Core.Path.{◌≡◌, refl, sym, ap, ap₂, ◌∙◌, subst}
 use mathlib.Core.List.{List, [], ◌∷◌, ◌++◌, append_assoc}
+use native.Mathlib.Numerals.{unary_clauses}
+use Rattle.std.specs.List.{filter, range_with_len}
 use mathlib.Core.Bool.{Bool, true, false, cond, not, ◌&&◌}
 use Prim.Native.Nat.{ℕ, zero, suc, ◌+◌, ◌-◌, ◌*◌, ◌<◌, ◌≤◌}
 use native.Mathlib.Nat.{add-zero, zero-add}
 use native.Mathlib.Numerals.{add-one}
 use native.Mathlib.Omega.{arith}
-use borrow.Author.Tests.{eq-eqb, ne_eqb, le-leb, lt-leb, leb-false}
+use borrow.Author.Tests.{eqb-true, le-leb, lt-leb, leb-false}
 use lib.ListN.{length, get_or, set, take, drop, drop_of_length-le, length-append, length-map, get_or-map}
 use lib.Seq.{drop-cons}
 use Rattle.laws.specs.Areas.{up_from}
@@ -90,10 +91,15 @@ module _ (nodes : List ℕ) (count : ℕ) where
     pub same_turn : (p r size : ℕ) → p + input_count (from k) ≡ size → r ≡ cond (is_cell_node (node_at nodes k)) p (p + 1) → r + input_count (from (k + 1)) ≡ size
     same_turn p r size l e = omega (arith, count_turn, e ∙ cond-number (is_cell_node (node_at nodes k)) p)
 
--- a test as a number
-pub byte_not : (b : Bool) → bool_byte (not b) ≡ cond b 0 1
-byte_not true = refl
-byte_not false = refl
+-- the inputs, as they are counted
+pub counted_inputs : (f : ℕ → BoolNode) (i n : ℕ) → length (filter (λ k. not (is_cell_node (f k))) (range_with_len i n)) ≡ input_count (up_from f i n)
+unfolding input_count
+counted_inputs f i zero = refl
+counted_inputs f i (suc n) = simp unary_clauses (go (is_cell_node (f i)) (filter (λ k. not (is_cell_node (f k))) (range_with_len (suc i) n)) (input_count (up_from f (suc i) n)) (counted_inputs f (suc i) n))
+  where
+    go : (t : Bool) (l : List ℕ) (m : ℕ) → length l ≡ m → length (cond (not t) (i ∷ l) l) ≡ cond t m (suc m)
+    go true l m e = e
+    go false l m e = ap suc e
 
 pub cond_small : (b : Bool) → cond b 0 1 ≤ 1
 cond_small true = omega arith
@@ -145,13 +151,9 @@ module _ (values outputs : List ℕ) (count : ℕ) where
 pub kind_word : (nodes : List ℕ) (k : ℕ) → (node_at nodes k).kind ≡ get_or nodes (k * 9) 0
 kind_word nodes k = ap (λ (j : ℕ). get_or nodes j 0) (add-zero (k * 9))
 
-pub word_cell : (nodes : List ℕ) (k : ℕ) → get_or nodes (k * 9) 0 ≡ 2 → is_cell_node (node_at nodes k) ≡ true
+pub cell_kind : (n : BoolNode) → is_cell_node n ≡ true → n.kind ≡ 2
 unfolding is_cell_node
-word_cell nodes k e = eq-eqb (get_or nodes (k * 9 + 0) 0) 2 (kind_word nodes k ∙ e)
-
-pub word_other : (nodes : List ℕ) (k : ℕ) → (get_or nodes (k * 9) 0 ≡ 2 → ⊥) → is_cell_node (node_at nodes k) ≡ false
-unfolding is_cell_node
-word_other nodes k e = ne_eqb (get_or nodes (k * 9 + 0) 0) 2 (λ q. e (sym (kind_word nodes k) ∙ q))
+cell_kind n e = eqb-true n.kind 2 e
 
 -- ---- a wire's word
 

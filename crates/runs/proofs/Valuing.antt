@@ -1,26 +1,26 @@
 -- The laws of the loop over the cells in storage order, and of what it tells.
 -- Assumes nothing.
+use Rattle.std.specs.Prelude.{⊤, Option, Some, None, is_some, IsSome, IsNone}
 use mathlib.Core.Path.{◌≡◌, refl, sym, ap, ◌∙◌, subst}
-use mathlib.Core.List.{List}
-use mathlib.Core.Bool.{Bool, true, false, cond, false≢true}
+use mathlib.Core.List.{List, []}
+use mathlib.Core.Bool.{Bool, true, false, cond, false≢true, true≢false}
 use Prim.Native.Nat.{ℕ, ◌+◌, ◌*◌, ◌<◌, ◌≤◌, zero-le}
 use native.Mathlib.Omega.{arith}
 use lib.Dec.{eqb, ltb}
-use borrow.Author.Tests.{eqb-true, eqb-false}
-use lib.ListN.{length, get_or, set, replicate, length-set}
+use borrow.Author.Tests.{eqb-true, eqb-false, ltb-true, ltb-false}
+use lib.ListN.{length, get_or, set, length-set}
 use lib.Seq.{get_or-set_same, get_or-set_other}
 use Rattle.laws.specs.Lists.{some}
+use Rattle.laws.proofs.Tests.{clash}
 use Rattle.circuit.specs.Records.{node_at, nodes_of, is_cell_node}
 use Rattle.runs.specs.Values.{entry_of, storage_values}
-use Rattle.runs.specs.Runs.{put_in}
-use Rattle.runs.specs.Fit.{Accepted}
 use Rattle.runs.specs.Work.{Tells, Passing, InputsIn, Settled, Valued}
+use Rattle.runs.specs.Steps.{Standing}
 use Rattle.runs.specs.Storing.{Begun, Worked, Fails}
 use Rattle.runs.proofs.Turns.{accepted_at}
 use Rattle.runs.proofs.Rules.{none_broken}
-use Rattle.runs.proofs.Evaluating.{storage_known, cell_value, other_value, assigned_bits, bits_below}
+use Rattle.runs.proofs.Evaluating.{storage_known, cell_value, other_value, assigned_bits}
 use Rattle.runs.proofs.Marks.{settled_passing}
-use Rattle.runs.proofs.Standing.{standing_marked}
 
 -- a node's value changes no other
 module _ (nodes : List ℕ) (k : ℕ) (s after : List ℕ) (e : Valued nodes k s after) where
@@ -48,6 +48,13 @@ module _ (nodes : List ℕ) (k : ℕ) (s after : List ℕ) (e : Valued nodes k s
       go true q = subst (λ (j : ℕ). get_or after j 0 < 2) (sym (eqb-true i k q)) e.known
       go false q = let d = eqb-false i k q in subst (λ (x : ℕ). x < 2) (sym (valued_stays i d)) (w i (omega (arith, g, d)))
 
+-- a node that is no cell
+pub other_settled : (nodes : List ℕ) (k : ℕ) (s : List ℕ) → is_cell_node (node_at nodes k) ≡ false → (b : Bool) → ltb (get_or s k 0) 2 ≡ b → Tells b (Settled nodes k s) × (b ≡ true → Valued nodes k s s)
+other_settled nodes k s e true l =
+    let h = ltb-true (get_or s k 0) 2 l in
+    (record { cell = λ q. absurd (clash q e); other = λ q. h }, λ q. record { value = rw e; known = h })
+other_settled nodes k s e false l = (λ t. omega (arith, t.other e, ltb-false (get_or s k 0) 2 l), λ q. absurd (false≢true q))
+
 module _ (nodes : List ℕ) (count : ℕ) (before : List ℕ) where
   pub worked_start : Worked nodes count before 0 before
   worked_start =
@@ -62,7 +69,7 @@ module _ (nodes : List ℕ) (count : ℕ) (before : List ℕ) where
 
   module _ (room : count ≤ length before) (k : ℕ) (s : List ℕ) (w : Worked nodes count before k s) (h : k < count) where
     -- a node of a circuit is settled
-    pub worked_fails : (a : List ℕ) → Begun nodes count before a → Settled nodes k s
+    worked_fails : (a : List ℕ) → Begun nodes count before a → Settled nodes k s
     worked_fails a g =
         let c = accepted_at nodes count g.circuit k h in
         record {
@@ -70,7 +77,7 @@ module _ (nodes : List ℕ) (count : ℕ) (before : List ℕ) where
           other = λ e. subst (λ (v : ℕ). v < 2) (sym (w.ahead k (omega arith) ∙ other_value nodes count g.circuit a k h before g.standing e)) (storage_known (nodes_of nodes count) a g.bits k);
         }
 
-    pub worked_next : (after : List ℕ) → Settled nodes k s → Valued nodes k s after → Worked nodes count before (k + 1) after
+    worked_next : (after : List ℕ) → Settled nodes k s → Valued nodes k s after → Worked nodes count before (k + 1) after
     worked_next after t e =
         record { inside = omega (arith, h); kept = valued_size nodes k s after e ∙ w.kept; known = valued_known nodes k s after e w.known; ahead = ahead; settled = settled; right = right }
       where
@@ -108,17 +115,22 @@ module _ (nodes : List ℕ) (count : ℕ) (before : List ℕ) where
             go true q = subst (λ (j : ℕ). get_or after j 0 ≡ get_or (storage_values (nodes_of nodes count) a) j 0) (sym (eqb-true i k q)) (last (is_cell_node (node_at nodes k)) refl)
             go false q = let d = eqb-false i k q in stays i d ∙ w.right a u i (omega (arith, g, d))
 
+-- what a node's value tells of the loop
+pub worked_cell : (nodes : List ℕ) (k : ℕ) (s after : List ℕ) (r : Option ⊤) → Tells (is_some r) (Settled nodes k s) × (IsSome r → Valued nodes k s after)
+    → (count : ℕ) (before : List ℕ) → k < count → count ≤ length before → Worked nodes count before k s → (IsSome r → Worked nodes count before (k + 1) after) × (IsNone r → Fails nodes count before)
+worked_cell nodes k s after None t count before h room w = (λ e. absurd (false≢true e), λ e a b. t.0 (worked_fails nodes count before room k s w h a b))
+worked_cell nodes k s after (Some u) t count before h room w = (λ e. worked_next nodes count before room k s w h after t.0 (t.1 refl), λ e. absurd (true≢false e))
+
 -- what the loop over a store of marks and inputs tells: all is right just where the nodes pass
-pub values_tell : (nodes : List ℕ) (count : ℕ) (assignment : List ℕ) (n : ℕ) (old : List ℕ) → count * 9 ≤ length nodes → old ≡ replicate n 144 → count ≤ n → some (ltb 1) assignment ≡ false
-    → (mid after : List ℕ) (r : Bool) → InputsIn nodes count assignment mid → (Passing nodes count assignment → mid ≡ put_in assignment 0 0 old (nodes_of nodes count))
+pub values_tell : (nodes : List ℕ) (count : ℕ) (assignment : List ℕ) → count * 9 ≤ length nodes → some (ltb 1) assignment ≡ false
+    → (mid after : List ℕ) (r : Bool) → InputsIn nodes count assignment mid → (Passing nodes count assignment → Standing (nodes_of nodes count) assignment [] mid)
     → (r ≡ true → Worked nodes count mid count after) → (r ≡ false → Fails nodes count mid)
     → Tells r (Passing nodes count assignment) × (r ≡ true → (k : ℕ) → k < count → get_or after k 0 ≡ get_or (storage_values (nodes_of nodes count) assignment) k 0)
-values_tell nodes count assignment n old room marks stored bits mid after r i p u f = go r u f
+values_tell nodes count assignment room bits mid after r i p u f = go r u f
   where
     begun : Passing nodes count assignment → Begun nodes count mid assignment
     begun b =
-        let ok : Accepted nodes count = record { room = room; accepted = b.accepted } in
-        record { circuit = ok; bits = assigned_bits assignment bits; standing = standing_marked nodes count ok assignment n old mid marks stored (bits_below assignment bits) (p b) }
+        record { circuit = record { room = room; accepted = b.accepted }; bits = assigned_bits assignment bits; standing = p b }
 
     go : (t : Bool) → (t ≡ true → Worked nodes count mid count after) → (t ≡ false → Fails nodes count mid)
         → Tells t (Passing nodes count assignment) × (t ≡ true → (k : ℕ) → k < count → get_or after k 0 ≡ get_or (storage_values (nodes_of nodes count) assignment) k 0)

@@ -66,12 +66,12 @@ pub fn further(lead: usize, x: usize, count: usize) -> usize
 }
 
 // A number past the nodes that a stretch names, by a look at one entry of eight; the lead where that is greater.
-pub fn front(order: &[usize], from: usize, end: usize, count: usize, lead: usize) -> usize
-    requires { (from ≤ end) × (end ≤ length order.now) × (lead ≤ count) }
+pub fn front(stretch: &[usize], count: usize, lead: usize) -> usize
+    requires { lead ≤ count }
     ensures { result ≤ count }
 {
     let mut top = lead;
-    for x in order[from..end].iter().step_by(8) {
+    for x in stretch.iter().step_by(8) {
         top = further(top, *x, count);
     }
     top
@@ -90,28 +90,28 @@ pub fn words_small(nodes: Nodes, from: usize, end: usize) -> bool
     high == 0
 }
 
-// The entries from one place of a list up to another seem to name nodes one after the other, as a list in storage order does: a machine fetches such records by itself.
-pub fn in_sequence(order: &[usize], from: usize, end: usize) -> bool
-    requires { (from < end) × (end ≤ length order.now) }
-    ensures { result ≡ true → get_or order.now (end - 1) 0 ≡ get_or order.now from 0 + (end - 1 - from) }
+// The entries of a stretch seem to name nodes one after the other, as a list in storage order does: a machine fetches such records by itself.
+pub fn in_sequence(stretch: &[usize]) -> bool
+    requires { 0 < length stretch.now }
+    ensures { result ≡ true → get_or stretch.now (length stretch.now - 1) 0 ≡ get_or stretch.now 0 0 + (length stretch.now - 1) }
 {
-    let first = order[from];
-    let last = order[end - 1];
-    first <= last && last - first == end - 1 - from
+    let first = stretch[0];
+    let last = stretch[stretch.len() - 1];
+    first <= last && last - first == stretch.len() - 1
 }
 
 // The number of nodes looked at once those that a stretch reaches are; all where one of them has words of no circuit, so that no more is looked at.
-pub fn look_ahead(nodes: Nodes, order: &[usize], from: usize, end: usize, lead: usize) -> usize
-    requires { (from < end) × (end ≤ length order.now) × (lead ≤ nodes.count) }
+pub fn look_ahead(nodes: Nodes, stretch: &[usize], lead: usize) -> usize
+    requires { (0 < length stretch.now) × (lead ≤ nodes.count) }
     ensures { result ≤ nodes.entry.count }
 {
     if lead == nodes.count {
         return lead;
     }
-    if in_sequence(order, from, end) {
-        return further(lead, order[end - 1], nodes.count);
+    if in_sequence(stretch) {
+        return further(lead, stretch[stretch.len() - 1], nodes.count);
     }
-    let top = front(order, from, end, nodes.count, lead);
+    let top = front(stretch, nodes.count, lead);
     if words_small(nodes, lead, top) {
         top
     } else {

@@ -1,5 +1,5 @@
 // `evaluate`: the outputs of the storage order, two-valued.
-ghost use Rattle.std.specs.Prelude.{◌≡◌, true, false, List, ◌++◌, ℕ, ◌+◌, ◌-◌, ◌*◌, ◌/◌, ◌<◌, ◌≤◌, ltb, length, get_or, replicate, is_some, IsSome, IsNone};
+ghost use Rattle.std.specs.Prelude.{◌≡◌, false, List, ◌++◌, ℕ, ◌+◌, ◌-◌, ◌/◌, ◌<◌, ◌≤◌, ltb, length, get_or, replicate, is_some, IsSome, IsNone};
 ghost use Rattle.laws.specs.Lists.{some};
 ghost use Rattle.circuit.specs.Records.{nodes_of};
 ghost use Rattle.circuit.specs.Check.{nodes_in, wires_in};
@@ -9,7 +9,7 @@ ghost use Rattle.runs.specs.Storing.{Worked, Fails};
 ghost use Rattle.runs.specs.Calls.{evaluate_fault, evaluate_call, call_result};
 
 use crate::ahead::counts_guessed;
-use crate::inputs::{assigned_fault, put_inputs};
+use crate::inputs::{assigned_fault, marked_inputs};
 use crate::lookup::Entry;
 use crate::outputs::{give, prepared, refuse, room_fault};
 use crate::ways::{Branched, Unbranched, Way};
@@ -19,13 +19,14 @@ use circuit::refusals::Refusal;
 // The value of node k goes into the store, if it is a cell. None where it breaks a rule, or is no cell and has no value.
 pub fn put_cell<W: Way>(nodes: Nodes, k: usize, values: &mut [u8]) -> Option<()>
     requires { (k < nodes.count) × Next k values.old }
-    ensures { Tells (is_some result) (Settled nodes.entry.words.now k values.old) × (IsSome result → Valued nodes.entry.words.now k values.old values.new) }
+    ensures settled { Tells (is_some result) (Settled nodes.entry.words.now k values.old) × (IsSome result → Valued nodes.entry.words.now k values.old values.new) }
+    ensures worked { (count : ℕ) (before : List ℕ) → k < count → count ≤ length before → Worked nodes.entry.words.now count before k values.old → (IsSome result → Worked nodes.entry.words.now count before (k + 1) values.new) × (IsNone result → Fails nodes.entry.words.now count before) }
 {
-    if nodes.words[k * 9] == 2 {
+    if nodes.is_cell(k) {
         values[k] = W::cell::<Entry>(nodes, k, values)?;
         return Some(());
     }
-    if values[k] < 2 { Some(()) } else { None }
+    (values[k] < 2).then_some(())
 }
 
 // The nodes in storage order, each checked (15, 16), then worked out if it is a cell. None where one fails.
@@ -46,8 +47,7 @@ pub fn put_values(nodes: Nodes, assignment: &[u8], values: &mut [u8]) -> Option<
     requires { (nodes.count ≤ length values.old) × (some (ltb 1) assignment.now ≡ false) }
     ensures { Tells (is_some result) (Passing nodes.entry.words.now nodes.entry.count assignment.now) × (IsSome result → (k : ℕ) → k < nodes.entry.count → get_or values.new k 0 ≡ get_or (storage_values (nodes_of nodes.entry.words.now nodes.entry.count) assignment.now) k 0) }
 {
-    values.fill(144);
-    put_inputs(nodes, assignment, values)?;
+    marked_inputs(nodes, assignment, values)?;
     if counts_guessed(nodes) {
         put_cells::<Branched>(nodes, values)
     } else {

@@ -1,32 +1,21 @@
 // The inputs of a circuit, and an assignment to them (19).
-ghost use Rattle.std.specs.Prelude.{◌≡◌, ◌<◌, ltb, length, IsSome};
+ghost use Rattle.std.specs.Prelude.{◌≡◌, false, [], ◌<◌, ◌≤◌, ltb, length, IsSome};
 ghost use Rattle.laws.specs.Lists.{some};
-ghost use Rattle.circuit.specs.Records.{node_at, nodes_of, is_cell_node};
+ghost use Rattle.circuit.specs.Records.{nodes_of};
 ghost use Rattle.runs.specs.Runs.{put_in, input_count, wrong_assignment};
 ghost use Rattle.runs.specs.Work.{Passing, is_input_at, Putting, Puttable, InputsIn};
+ghost use Rattle.runs.specs.Steps.{Steppable, Standing};
 ghost use Rattle.runs.specs.Calls.{assigned_fault};
 
 use circuit::check::validate_topological;
 use circuit::nodes::Nodes;
 use circuit::refusals::Refusal;
 
-// Node k is a cell.
-pub fn is_cell(nodes: Nodes, k: usize) -> bool
-    requires { k < nodes.count }
-    ensures { result ≡ is_cell_node (node_at nodes.entry.words.now k) }
-{
-    nodes.words[k * 9] == 2
-}
-
 // How many inputs there are.
 pub fn count_inputs(nodes: Nodes) -> usize
     ensures { result ≡ input_count (nodes_of nodes.entry.words.now nodes.entry.count) }
 {
-    let mut n = 0;
-    for k in 0..nodes.count {
-        n += usize::from(!is_cell(nodes, k));
-    }
-    n
+    (0..nodes.count).filter(|k| !nodes.is_cell(*k)).count()
 }
 
 // Some value is above the top.
@@ -85,9 +74,14 @@ pub fn put_inputs(nodes: Nodes, assignment: &[u8], values: &mut [u8]) -> Option<
         }
         p = put_input(nodes, k, assignment, p, values);
     }
-    if assignment.len() <= p {
-        Some(())
-    } else {
-        None
-    }
+    (assignment.len() <= p).then_some(())
+}
+
+// A mark for every node, then the values of the inputs. None where there are too few inputs.
+pub fn marked_inputs(nodes: Nodes, assignment: &[u8], values: &mut [u8]) -> Option<()>
+    requires { (nodes.count ≤ length values.old) × (some (ltb 2) assignment.now ≡ false) }
+    ensures { (IsSome result → InputsIn nodes.entry.words.now nodes.entry.count assignment.now values.new × Steppable nodes.entry.count values.new) × (Passing nodes.entry.words.now nodes.entry.count assignment.now → IsSome result × Standing (nodes_of nodes.entry.words.now nodes.entry.count) assignment.now [] values.new) }
+{
+    values.fill(144);
+    put_inputs(nodes, assignment, values)
 }

@@ -1,6 +1,7 @@
 // What is looked up for a cell by its table and the values of its wires: `evaluate` takes the entry of the table, a run the place of the answer in the table of answers.
-ghost use Rattle.std.specs.Prelude.{◌≡◌, true, List, ℕ, ◌<◌, ◌≤◌, length, get_or};
+ghost use Rattle.std.specs.Prelude.{◌≡◌, true, List, ℕ, ◌<◌, get_or};
 ghost use Rattle.circuit.specs.declared.records.BoolNode.{BoolNode};
+ghost use Rattle.circuit.specs.Records.{is_cell_node};
 ghost use Rattle.circuit.specs.Check.{node_broken};
 ghost use Rattle.runs.specs.Work.{Graded, OneWire, TwoWires, checked_entry};
 ghost use Rattle.runs.specs.Steps.{PlaceOf};
@@ -15,9 +16,9 @@ pub trait Lookup {
 
     ghost Right: { ℕ → BoolNode → List ℕ → Self.Found → Type 0 };
 
-    // For a cell that breaks a rule or reads a node that is not earlier.
+    // For no cell, and for a cell that breaks a rule or reads a node that is not earlier.
     fn missing() -> Self::Found
-        ensures { (k : ℕ) (n : BoolNode) (values : List ℕ) → true ≡ node_broken k n → Right k n values result };
+        ensures { (k : ℕ) (n : BoolNode) (values : List ℕ) → (is_cell_node n ≡ true → true ≡ node_broken k n) → Right k n values result };
 
     // For any other: by its table and the values of its wires, the first 0 where it has one.
     fn found(table: usize, first: usize, second: usize) -> Self::Found
@@ -34,7 +35,7 @@ impl Lookup for Entry {
 
     ghost Known = { λ k values. (i : ℕ) → i < k → get_or values i 0 < 2 };
 
-    ghost Right = { λ k n values r. r ≡ checked_entry k n values };
+    ghost Right = { λ k n values r. is_cell_node n ≡ true → r ≡ checked_entry k n values };
 
     fn missing() -> Option<u8> {
         None

@@ -74,13 +74,13 @@ pub fn checked_inputs(nodes: &[usize], outputs: &[usize]) -> Result<usize, Refus
     sound_inputs(records)
 }
 
-// Input p of n has bit n - p - 1: the number is a place and tells the bit.
+// Input p of n has bit n - p - 1.
 pub fn put_number(n: usize, number: usize, assignment: &mut [u8])
     requires { (n ≤ 20) × (n ≤ length assignment.old) }
     ensures { assignment.new ≡ numbered n number ++ drop n assignment.old }
 {
-    for p in 0..n {
-        assignment[p] = table_entry(number, n - p - 1) as u8;
+    for (p, value) in assignment[..n].iter_mut().enumerate() {
+        *value = table_entry(number, n - p - 1) as u8;
     }
 }
 

@@ -1,15 +1,15 @@
 // The outputs from the value store, the room for both (3), and what a call leaves in its areas.
 ghost use Rattle.std.specs.Prelude.{◌≡◌, false, ◌++◌, ◌-◌, ◌*◌, ◌≤◌, length, drop, replicate};
 ghost use Rattle.circuit.specs.Records.{output_wires};
-ghost use Rattle.circuit.specs.Check.{some_not_below};
-ghost use Rattle.runs.specs.Values.{outputs_from};
+ghost use Rattle.circuit.specs.Check.{not_below, some_not_below};
+ghost use Rattle.runs.specs.Values.{signal_value, outputs_from};
 ghost use Rattle.runs.specs.Work.{Tells, Prepared};
 ghost use Rattle.runs.specs.Calls.{room_fault};
 
 use crate::inputs::some_above;
-use crate::values::wire_value;
 use circuit::check::{are_whole, output_outside};
 use circuit::nodes::Outputs;
+use circuit::records::BoolWire;
 use circuit::refusals::Refusal;
 
 // Refusal 3: the value store shorter than the nodes, or the output area than the outputs.
@@ -47,13 +47,24 @@ pub fn prepared(
     room_fault(nodes, outputs, store, answers).is_ok()
 }
 
-// The value of each output's wire. One number goes over both areas.
+// The value of an output's wire.
+fn output_value(wire: BoolWire, values: &[u8]) -> u8
+    requires { not_below (length values.now) wire ≡ false }
+    ensures { result ≡ signal_value values.now wire }
+{
+    match wire {
+        BoolWire::Const(value) => u8::from(value),
+        BoolWire::Node(n) => values[n.0],
+    }
+}
+
+// The value of each output's wire.
 pub fn put_outputs(outputs: Outputs, values: &[u8], answers: &mut [u8])
     requires { (outputs.count ≤ length answers.old) × (some_not_below (length values.now) (output_wires outputs.words.now outputs.count) ≡ false) }
     ensures { answers.new ≡ outputs_from values.now (output_wires outputs.entry.words.now outputs.entry.count) ++ drop outputs.entry.count answers.old }
 {
-    for j in 0..outputs.count {
-        answers[j] = wire_value(outputs.words[j * 5 + 4], values) as u8;
+    for (j, answer) in answers[..outputs.count].iter_mut().enumerate() {
+        *answer = output_value(outputs.wire(j), values);
     }
 }
 

@@ -5,13 +5,13 @@ ghost use Rattle.circuit.specs.Records.{nodes_of};
 ghost use Rattle.circuit.specs.Check.{nodes_in, wires_in};
 ghost use Rattle.circuit.specs.Graph.{graph_of, fit};
 ghost use Rattle.runs.specs.Runs.{run_outputs};
-ghost use Rattle.runs.specs.Work.{Tells, Passing, InputsIn};
-ghost use Rattle.runs.specs.Steps.{Steppable, Standing};
+ghost use Rattle.runs.specs.Work.{Tells, Passing};
+ghost use Rattle.runs.specs.Steps.{Standing};
 ghost use Rattle.runs.specs.Calls.{run_fault, run_call, call_result};
 
 use crate::ahead::counts_guessed;
-use crate::fitness::fit_list;
-use crate::inputs::{assigned_fault, put_inputs};
+use crate::fitness::{CheckedNodes, fit_list};
+use crate::inputs::{assigned_fault, marked_inputs};
 use crate::outputs::{give, prepared, refuse, room_fault};
 use crate::step::Walk;
 use crate::stretches::none_waits;
@@ -32,7 +32,10 @@ pub fn run_fault(
     ensures { result ≡ run_fault nodes.now outputs.now order.now assignment.now store answers }
 {
     assigned_fault(nodes, outputs, assignment, 2)?;
-    if !fit_list(Nodes::of(nodes), assignment.len(), order) {
+    let checked = CheckedNodes {
+        nodes: Nodes::of(nodes),
+    };
+    if !fit_list(checked, assignment.len(), order) {
         return Err(Refusal::UnfitOrder);
     }
     room_fault(nodes, outputs, store, answers)
@@ -43,15 +46,6 @@ pub fn lists_cells(count: usize, inputs: usize, entries: usize) -> bool
     ensures { Tells result (entries + inputs ≡ count) }
 {
     inputs <= count && entries == count - inputs
-}
-
-// A mark for every node, then the values of the inputs. None where there are too few inputs.
-pub fn marked_inputs(nodes: Nodes, assignment: &[u8], values: &mut [u8]) -> Option<()>
-    requires { (nodes.count ≤ length values.old) × (some (ltb 2) assignment.now ≡ false) }
-    ensures { (IsSome result → InputsIn nodes.entry.words.now nodes.entry.count assignment.now values.new × Steppable nodes.entry.count values.new) × (Passing nodes.entry.words.now nodes.entry.count assignment.now → IsSome result × Standing (nodes_of nodes.entry.words.now nodes.entry.count) assignment.now [] values.new) }
-{
-    values.fill(144);
-    put_inputs(nodes, assignment, values)
 }
 
 // The inputs, then a step for each entry, which checks its record: with as many entries and values as nodes, each node is an input or a cell that was checked.
@@ -72,11 +66,7 @@ pub fn run_store(nodes: Nodes, order: &[usize], assignment: &[u8], values: &mut 
     } else {
         walk.run_stretches::<Unbranched>(values)?;
     }
-    if none_waits(values, nodes.count) {
-        Some(())
-    } else {
-        None
-    }
+    none_waits(values, nodes.count).then_some(())
 }
 
 // What an accepted run does; None where the call is to be refused.

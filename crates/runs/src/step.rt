@@ -1,5 +1,5 @@
 // What a run along a list reads, one entry of the list, and the loop over the list.
-ghost use Rattle.std.specs.Prelude.{◌≡◌, ◌<◌, ◌≤◌, length, is_some, IsSome};
+ghost use Rattle.std.specs.Prelude.{◌<◌, ◌≤◌, length, is_some, IsSome};
 ghost use Rattle.circuit.specs.Records.{node_at};
 ghost use Rattle.cells.specs.Cells.{AnswerTable};
 ghost use Rattle.runs.specs.Work.{Tells, Graded};
@@ -25,9 +25,6 @@ impl<'a> Walk<'a> {
         requires { (x < self.now.nodes.count) × (x < length values.old) × Graded values.old }
         ensures { Tells (is_some result) (Ready x (node_at self.now.nodes.words.now x) values.old) × (IsSome result → Stepped self.now.nodes.words.now x values.old values.new) }
     {
-        if self.nodes.words[x * 9] != 2 {
-            return None;
-        }
         let place = W::cell::<Place>(self.nodes, x, values);
         let answers = self.answers;
         values[x] = *answers.get(place)?;
@@ -35,6 +32,7 @@ impl<'a> Walk<'a> {
     }
 
     // A step for each entry from one place of the list up to another, while its cell is ready.
+    // By places and not by a part of the list, since what is walked is told of the whole list from its start.
     pub fn run_list<W: Way>(&self, from: usize, end: usize, values: &mut [u8]) -> Option<()>
         requires { Steppable self.now.nodes.count values.old × (from ≤ end) × (end ≤ length self.now.order.now) }
         ensures { Went self.now.nodes.words.now self.now.nodes.count self.now.order.now from end values.old (is_some result) values.new }

@@ -12,10 +12,7 @@ pub fn none_waits(values: &[u8], count: usize) -> bool
     requires { count ≤ length values.now }
     ensures { Tells result (mark_count count values.now ≡ 0) }
 {
-    let mut top = 0;
-    for value in &values[..count] {
-        top = top.max(*value);
-    }
+    let top = values[..count].iter().fold(0, |top, value| top.max(*value));
     top < 3
 }
 
@@ -27,12 +24,12 @@ pub enum Passage {
 }
 
 impl<'a> Walk<'a> {
-    // The steps of a stretch, those of cells with two wires of nodes first where these are asked for. None where they stop at a cell that is not ready.
+    // The steps of a stretch, those of cells with two wires of nodes first where the stretch before went by them. None where they stop at a cell that is not ready.
     // Not inlined: in the exported call the loop would have too few registers.
     #[inline(never)]
     pub fn run_stretch<W: Way>(
         &self,
-        plain: bool,
+        how: Passage,
         from: usize,
         end: usize,
         values: &mut [u8],
@@ -40,7 +37,7 @@ impl<'a> Walk<'a> {
         requires { Steppable self.now.nodes.count values.old × (from ≤ end) × (end ≤ length self.now.order.now) }
         ensures { (IsSome result → (start : ℕ) (old : List ℕ) → start ≤ from → Walked self.now.nodes.words.now self.now.nodes.count self.now.order.now start from old values.old → Walked self.now.nodes.words.now self.now.nodes.count self.now.order.now start end old values.new) × (IsNone result → (start : ℕ) (old : List ℕ) → start ≤ from → Walked self.now.nodes.words.now self.now.nodes.count self.now.order.now start from old values.old → Through self.now.nodes.words.now self.now.nodes.count self.now.order.now start end old false values.new) }
     {
-        if plain && self.plain_stretch(from, end, values).is_some() {
+        if how == Passage::Plain && self.plain_stretch(from, end, values).is_some() {
             return Some(Passage::Plain);
         }
         self.run_list::<W>(from, end, values)?;
@@ -59,8 +56,8 @@ impl<'a> Walk<'a> {
         // Each stretch says where the next begins.
         while from < entries {
             let end = stretch_end(from, entries, self.nodes.count);
-            lead = look_ahead(self.nodes, self.order, from, end, lead);
-            how = self.run_stretch::<W>(how == Passage::Plain, from, end, values)?;
+            lead = look_ahead(self.nodes, &self.order[from..end], lead);
+            how = self.run_stretch::<W>(how, from, end, values)?;
             from = end;
         }
         Some(())

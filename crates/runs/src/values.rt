@@ -1,5 +1,5 @@
 // What the words of a record say of its wires.
-ghost use Rattle.std.specs.Prelude.{◌≡◌, true, false, ◌+◌, ◌*◌, ◌^◌, ◌<◌, ◌≤◌, length};
+ghost use Rattle.std.specs.Prelude.{◌≡◌, true, false, ◌+◌, ◌*◌, ◌^◌, ◌<◌, length};
 ghost use Rattle.circuit.specs.Records.{wire_of};
 ghost use Rattle.circuit.specs.Check.{not_below};
 ghost use Rattle.runs.specs.Values.{signal_value};
@@ -32,7 +32,7 @@ pub fn node_value(word: usize, values: &[u8]) -> usize
     values[word - 2] as usize
 }
 
-// The value of any wire, for a place in a table or an output.
+// The value of any wire, for a place in a table.
 pub fn wire_value(word: usize, values: &[u8]) -> usize
     requires { not_below (length values.now) (wire_of word) ≡ false }
     ensures { (result ≡ signal_value values.now (wire_of word)) × (result < 256) }

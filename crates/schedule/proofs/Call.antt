@@ -1,6 +1,6 @@
 -- The checks of the call, one after the other, and what the call leaves.
 -- Assumes nothing.
-use Rattle.std.specs.Prelude.{Err, Ok, Result}
+use Rattle.std.specs.Prelude.{Err, Ok}
 use Prim.Native.Nat.{ℕ, ◌+◌, ◌-◌, ◌*◌, ◌/◌, ◌≤◌, ◌<◌}
 use mathlib.Core.Path.{◌≡◌, refl, sym, ap, ap₂, ◌∙◌}
 use mathlib.Core.Logic.{◌≢◌}
@@ -13,8 +13,7 @@ use borrow.Author.Tests.{eqb-true, eqb-false, eq-eqb, ne_eqb, leb-true, le-leb, 
 use Rattle.std.proofs.lemmas.Bool.{and_parts}
 use Rattle.circuit.specs.declared.refusals.Refusal.{Refusal}
 use Rattle.circuit.specs.declared.refusals.Refusal.TheVariants.{Broken, NoWindow, WrongValues, NoRoom, Circle}
-use Rattle.circuit.specs.Refusals.{Checked}
-use Rattle.circuit.specs.Refusals.{refuse_if, first_fault}
+use Rattle.circuit.specs.Refusals.{Try, Checked, refuse_if, first_fault}
 use Rattle.circuit.specs.Check.{whole, circuit_broken, nodes_in, wires_in, records_fault}
 use Rattle.circuit.specs.Graph.{cells_of}
 use Rattle.circuit.proofs.Checks.{no_fault, not_refused}
@@ -112,7 +111,7 @@ module _ (nodes outputs : List ℕ) (window : ℕ) (keys : List ℕ) (ready succ
 
 -- the order, or 17
 
-left_same : (a b : (Result ℕ Refusal)) (r s o r' s' o' : List ℕ) → a ≡ b → r ≡ r' → s ≡ s' → o ≡ o' → leaves a r s o ≡ leaves b r' s' o'
+left_same : (a b : Try ℕ) (r s o r' s' o' : List ℕ) → a ≡ b → r ≡ r' → s ≡ s' → o ≡ o' → leaves a r s o ≡ leaves b r' s' o'
 left_same a b r s o r' s' o' p q u v = λ i. record { answer = p i; ready = q i; successors = u i; order = v i }
 
 module _ (nodes : List ℕ) (count : ℕ) (keys : List ℕ) (window : ℕ) (order : List ℕ) (r cells : ℕ) (l : Listed nodes count keys window order r) (e : cells ≡ length (cells_of (graph_in nodes count)))

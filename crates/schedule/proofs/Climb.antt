@@ -3,7 +3,7 @@
 use Prim.Native.Nat.{ℕ, zero, suc, ◌+◌, ◌-◌, ◌*◌, ◌/◌, ◌≤◌, ◌<◌}
 use mathlib.Core.Path.{◌≡◌, refl, sym, ap, ap₂, subst, ◌∙◌}
 use mathlib.Core.Logic.{◌⊎◌, inl, inr, ◌≢◌}
-use mathlib.Core.Bool.{Bool, true, false, not, true≢false}
+use mathlib.Core.Bool.{Bool, true, false}
 use mathlib.Core.List.{List}
 use native.Mathlib.Omega.{arith}
 use lib.Dec.{eqb, ltb}
@@ -13,10 +13,6 @@ use borrow.Author.Tests.{eqb-true, eqb-false, ltb-true, ltb-false}
 use Rattle.schedule.specs.Schedule.{Key}
 use Rattle.schedule.specs.Tree.{ahead, Leads, better_of, Joined, LeavesKept}
 use Rattle.schedule.proofs.Winners.{ahead-one, ahead_left, ahead_right, ahead_bound}
-
-pub not_taken : (t : Bool) → not t ≡ true → t ≡ false
-not_taken true h = absurd (true≢false (sym h))
-not_taken false h = refl
 
 pub joined-one : (key : ℕ → Key) (leaves n : ℕ) (tree : List ℕ) (start : ℕ) → start ≡ 1 → Joined key leaves n tree start 0 → Joined key leaves n tree 1 0
 joined-one key leaves n tree start e j = rw e at j

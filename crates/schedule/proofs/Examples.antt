@@ -17,7 +17,8 @@ use Rattle.circuit.specs.Records.{encode_node, encode_output, is_cell_node, wire
 use Rattle.circuit.specs.Check.{cell_broken, record_broken, node_broken, circuit_broken, whole, records_fault}
 use Rattle.circuit.specs.Graph.{nodes_read, vertex_of, graph_of, outside, is_cell, reads_of, cells_of, waits, free, ready, ready_cells}
 use Rattle.schedule.specs.Schedule.{key_at, above, best, pick, next, schedule_from, schedule_of}
-use Rattle.schedule.specs.Call.{ordered_number, ordered_cells, graph_in, order_in, room, leaves_out, call_fault, circle_fault, schedule_fault, Left, leaves, schedule_call}
+use Rattle.circuit.specs.Refusals.{checked_number}
+use Rattle.schedule.specs.Call.{ordered_cells, graph_in, order_in, room, leaves_out, call_fault, circle_fault, schedule_fault, Left, leaves, schedule_call}
 
 abbrev n : ℕ → BoolWire
 n k = Node (record { 0 = k })
@@ -55,7 +56,7 @@ starred-order = refl
 
 -- number, count and order of a call with just enough room
 abbrev gives : Left → List ℕ
-gives l = ordered_number l.answer ∷ ordered_cells l.answer ∷ l.order
+gives l = checked_number l.answer ∷ ordered_cells l.answer ∷ l.order
 
 abbrev by : List BoolNode → ℕ → List ℕ → List ℕ
 by ns window keys = gives (schedule_call (encodes encode_node ns) [] window keys (replicate (3 * length ns) 7) (replicate (2 * length ns + 1) 7) (replicate (length ns) 7))

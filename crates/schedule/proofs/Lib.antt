@@ -23,3 +23,4 @@ pub mod Ranking
 pub mod Keeping
 pub mod Root
 pub mod Windows
+pub mod MemberSteps

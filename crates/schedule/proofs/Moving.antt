@@ -20,7 +20,9 @@ use Rattle.laws.proofs.Lists.{one_less, numbers_same, numbers-empty, numbers-non
 use borrow.Author.Tests.{eq-eqb, ne_eqb, eqb-true, eqb-false}
 use Rattle.schedule.specs.declared.waiting.ReadyCells.{ReadyCells}
 use Rattle.schedule.specs.Tree.{Kept}
-use Rattle.schedule.specs.Areas.{ready_in, Counted, Moved, Noted, Empty, Opened, cell_at, both, linked, source_of}
+use Rattle.circuit.specs.Records.{node_at, is_cell_node}
+use Rattle.schedule.proofs.Records.{cell-words}
+use Rattle.schedule.specs.Areas.{ready_in, Counted, Moved, Noted, Empty, Opened, both, linked, source_of}
 use Rattle.schedule.proofs.Order.{length-numbers}
 
 module _ (n : ℕ) (area : List ℕ) (room : 3 * n ≤ length area) where
@@ -142,9 +144,8 @@ cleared_empty n area k after e d =
     record { levels = rw f (empty_levels (k - 2 * n) n); none = λ j h. rw f (empty-none (k - 2 * n) j) }
 
 -- what `open` notes of a node
-pub opened_is : (nodes : List ℕ) (n : ℕ) (area : List ℕ) (q left : ℕ) (up : Bool) (after : List ℕ) → left ≡ both (linked (source_of nodes)) q → up ≡ eqb (get_or nodes (9 * q) 0) 2 && eqb left 0 → Noted n area q left up after → Opened nodes n area q after
-unfolding cell_at
-opened_is nodes n area q left up after e f noted = rw (← e, ← f) noted
+pub opened_is : (nodes : List ℕ) (n : ℕ) (area : List ℕ) (q left : ℕ) (up : Bool) (after : List ℕ) → left ≡ both (linked (source_of nodes)) q → up ≡ is_cell_node (node_at nodes q) && eqb left 0 → Noted n area q left up after → Opened nodes n area q after
+opened_is nodes n area q left up after e f noted = rw (← e, ← cell-words nodes q, ← f) noted
 
 pub counted-some : (n : ℕ) (area : List ℕ) (cells : ReadyCells) → Counted n area cells → (p : ℕ) → p < n → member (drop (2 * n) area) p ≡ true → 1 ≤ cells.number
 counted-some n area cells counted p below flag = go (eqb cells.number 0) refl

@@ -77,7 +77,7 @@ second_below m true (suc (suc count)) a b e =
 -- the words of record k
 
 module _ (nodes : List ℕ) (k : ℕ) where
-  cell-words : is_cell_node (node_at nodes k) ≡ cell_at nodes k
+  pub cell-words : is_cell_node (node_at nodes k) ≡ cell_at nodes k
   unfolding is_cell_node cell_at
   cell-words = let e : k * 9 + 0 ≡ 9 * k = omega arith in ap (λ (i : ℕ). eqb (get_or nodes i 0) 2) e
 

@@ -23,10 +23,6 @@ use Rattle.schedule.specs.Schedule.{Key, key_at, above, best, pick}
 use Rattle.schedule.specs.Areas.{ready_in, Counted, PickedIs}
 use Rattle.schedule.proofs.WindowOne.{numbers-append}
 
-choice_below : (t : Bool) (b k : ℕ) → b ≤ k → cond t k b ≤ k
-choice_below true b k h = omega arith
-choice_below false b k h = h
-
 -- the numbers from i on
 
 module _ (p : ℕ → Bool) (n : ℕ) where
@@ -38,53 +34,38 @@ module _ (p : ℕ → Bool) (n : ℕ) where
     pub first-none : n ≤ r → numbers p k (n - k) ≡ []
     first-none h = numbers-empty p k (n - k) (λ j a b. first.none j a (omega arith) (omega arith))
 
-    first_some : r < n → numbers p k (n - k) ≡ r ∷ numbers p (r + 1) (n - (r + 1))
+    pub first_some : r < n → numbers p k (n - k) ≡ r ∷ numbers p (r + 1) (n - (r + 1))
     first_some h =
         let a : (r - k) + (n - r) ≡ n - k = omega (arith, first.from) in
         let b : k + (r - k) ≡ r = omega (arith, first.from) in
         ap (numbers p k) (sym a) ∙ numbers-append p k (r - k) (n - r) ∙ ap (λ (l : List ℕ). l ++ numbers p (k + (r - k)) (n - r)) (numbers-empty p k (r - k) (λ j c d. first.none j c (omega arith) (omega arith))) ∙ ap (λ (z : ℕ). numbers p z (n - r)) b
         ∙ numbers_at r h ∙ ap (λ (t : Bool). keep t r (numbers p (r + 1) (n - (r + 1)))) (first.here h)
 
--- the scan's invariant, and its turns
+-- the scan: the pick of all is the best of a node and of those to come
 
-pub record Scanning (set keys : List ℕ) (nodes window i found best₀ : ℕ) : Type 0 where
-  pub index : i ≤ nodes
-  pub known : best₀ < i
-  pub some_found : found ≤ window
-  pub same : some (best (key_at keys) best₀ (take (window - found) (numbers (member set) i (nodes - i)))) ≡ pick (key_at keys) (take window (numbers (member set) 0 nodes))
+module _ (set keys : List ℕ) (nodes others : ℕ) where
+  abbrev pub PickIs : ℕ → List ℕ → Type 0
+  PickIs b left = some (best (key_at keys) b left) ≡ pick (key_at keys) (take (others + 1) (numbers (member set) 0 nodes))
 
-module _ (set keys : List ℕ) (nodes window : ℕ) where
-  pub scanning_start : (first : ℕ) → First (member set) 0 nodes first → first < nodes → 1 ≤ window → Scanning set keys nodes window (first + 1) 1 first
+  pub scan_start : (first : ℕ) → First (member set) 0 nodes first → first < nodes → PickIs first (take others (numbers (member set) (first + 1) (nodes - (first + 1))))
   unfolding pick
-  scanning_start first f h l =
-      let w : window ≡ suc (window - 1) = omega arith in
+  scan_start first f h =
+      let w : others + 1 ≡ suc others = omega arith in
       let m : nodes - 0 ≡ nodes = omega arith in
-      let e : take window (numbers (member set) 0 nodes) ≡ first ∷ take (window - 1) (numbers (member set) (first + 1) (nodes - (first + 1))) = ap (λ (z : ℕ). take window (numbers (member set) 0 z)) (sym m) ∙ ap (take window) (first_some (member set) nodes 0 first f h) ∙ ap (λ (v : ℕ). take v (first ∷ numbers (member set) (first + 1) (nodes - (first + 1)))) w in
-      record { index = omega arith; known = omega arith; some_found = l; same = sym (ap (pick (key_at keys)) e) }
+      sym (ap (pick (key_at keys)) (ap (λ (z : ℕ). take (others + 1) (numbers (member set) 0 z)) (sym m) ∙ ap (take (others + 1)) (first_some (member set) nodes 0 first f h) ∙ ap (λ (v : ℕ). take v (first ∷ numbers (member set) (first + 1) (nodes - (first + 1)))) w))
 
-  module _ (i found best₀ : ℕ) (s : Scanning set keys nodes window i found best₀) where
-    pub scanning_take : (node : ℕ) → First (member set) i nodes node → node < nodes → found < window → Scanning set keys nodes window (node + 1) (found + 1) (cond (above (key_at keys node) (key_at keys best₀)) node best₀)
+  module _ (b count : ℕ) (left : List ℕ) (same : PickIs b (take count left)) where
+    pub scan_take : (node less : ℕ) (rest : List ℕ) → left ≡ node ∷ rest → less + 1 ≡ count → PickIs (cond (above (key_at keys node) (key_at keys b)) node b) (take less rest)
     unfolding best
-    scanning_take node f h l =
-        let w : window - found ≡ suc (window - (found + 1)) = omega arith in
-        let e : take (window - found) (numbers (member set) i (nodes - i)) ≡ node ∷ take (window - (found + 1)) (numbers (member set) (node + 1) (nodes - (node + 1))) = ap (take (window - found)) (first_some (member set) nodes i node f h) ∙ ap (λ (v : ℕ). take v (node ∷ numbers (member set) (node + 1) (nodes - (node + 1)))) w in
-        record {
-          index = omega arith;
-          known = omega (arith, choice_below (above (key_at keys node) (key_at keys best₀)) best₀ node (omega (arith, s.known, f.from)));
-          some_found = omega arith;
-          same = sym (ap (λ (l : List ℕ). some (best (key_at keys) best₀ l)) e) ∙ s.same;
-        }
+    scan_take node less rest e m = let z : count ≡ suc less = omega arith in rw (e, z) at same
 
-    -- the two ways out of the scan
-    pub scanning_full : window ≤ found → some best₀ ≡ pick (key_at keys) (take window (numbers (member set) 0 nodes))
+    pub scan_over : (0 < count → left ≡ []) → some b ≡ pick (key_at keys) (take (others + 1) (numbers (member set) 0 nodes))
     unfolding best
-    scanning_full h =
-        let z : window - found ≡ 0 = omega arith in
-        rw z at s.same
-
-    pub scanning_none : (node : ℕ) → First (member set) i nodes node → nodes ≤ node → some best₀ ≡ pick (key_at keys) (take window (numbers (member set) 0 nodes))
-    unfolding best
-    scanning_none node f h = rw (first-none (member set) nodes i node f h, take-nil (window - found)) at s.same
+    scan_over none = go (ltb 0 count) refl
+      where
+        go : (t : Bool) → ltb 0 count ≡ t → some b ≡ pick (key_at keys) (take (others + 1) (numbers (member set) 0 nodes))
+        go true q = rw (none (ltb-true 0 count q), take-nil count) at same
+        go false q = let l = ltb-false 0 count q in let z : count ≡ 0 = omega arith in rw z at same
 
 -- no more than are ready need be looked at
 
@@ -121,10 +102,11 @@ module _ (n : ℕ) (area keys : List ℕ) (cells : ReadyCells) (counted : Counte
           let z : ready_in n area ≡ [] = ap (numbers (member (drop (2 * n) area)) 0) (sym m) ∙ first-none (member (drop (2 * n) area)) n 0 first whole (ltb-false first n e) in
           absurd (omega (arith, counted.number, ap length z))
 
-  pub picked_is : 1 ≤ cells.number → (window most : ℕ) → most ≡ min window cells.number → (node : ℕ) → some node ≡ pick (key_at keys) (take most (numbers (member (take (length area - 2 * n) (drop (2 * n) area))) 0 n)) → (p : Picked) → p.node ≡ node → p.first ≡ first → PickedIs n area keys window p
-  picked_is h window most m node e p q r =
+  pub picked_is : 1 ≤ cells.number → (window most : ℕ) → most ≡ min window cells.number → 1 ≤ most → (node : ℕ) → some node ≡ pick (key_at keys) (take (most - 1 + 1) (numbers (member (take (length area - 2 * n) (drop (2 * n) area))) 0 n)) → (p : Picked) → p.node ≡ node → p.first ≡ first → PickedIs n area keys window p
+  picked_is h window most m some_most node e p q r =
+      let z : most - 1 + 1 ≡ most = omega arith in
       record {
-        node_is = ap some q ∙ (rw (take_rest area (2 * n)) at e) ∙ ap (λ (k : ℕ). pick (key_at keys) (take k (ready_in n area))) m ∙ ap (pick (key_at keys)) (take_least window cells.number (ready_in n area) counted.number);
+        node_is = ap some q ∙ (rw (take_rest area (2 * n), z) at e) ∙ ap (λ (k : ℕ). pick (key_at keys) (take k (ready_in n area))) m ∙ ap (pick (key_at keys)) (take_least window cells.number (ready_in n area) counted.number);
         low = omega (arith, picked_below h);
         none = λ j l. whole.none j (omega arith) (omega arith) (omega (arith, picked_below h));
       }

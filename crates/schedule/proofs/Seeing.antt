@@ -12,10 +12,7 @@ use lib.ListN.{get_or}
 use lib.Pow.{pow_mono, shr_lt, shr-shr}
 use borrow.Author.Tests.{ltb-true, ltb-false}
 use Rattle.readyset.specs.Sets.{member, First}
-use Rattle.readyset.proofs.Levels.{first-room, first_here, first_beyond}
-use Rattle.std.specs.Bool.{then_some}
-use Rattle.std.specs.Prelude.{MatchOption}
-use Rattle.schedule.specs.declared.picking.Seen.{Seen}
+use Rattle.readyset.proofs.Levels.{first_here}
 use Rattle.schedule.specs.Areas.{RestIs}
 
 -- nothing is left of 64 bits past the last
@@ -43,23 +40,11 @@ module _ (s : List ℕ) (n i rest : ℕ) (h : RestIs s i rest) (nz : rest ≡ 0 
   onwards : get_or s (i / 64) 0 / 2 ^ (i % 64) ≡ 0 → ⊥
   onwards z = nz (h nz ∙ z)
 
-  -- the member is in the word
-  pub seen_room : i % 64 + count_trailing_zeros 64 rest < 64
-  seen_room = subst (λ (r : ℕ). i % 64 + count_trailing_zeros 64 r < 64) (sym (h nz)) (first-room s n i f onwards)
-
   pub seen_here : First (member s) i n (i + count_trailing_zeros 64 rest)
   seen_here = subst (λ (r : ℕ). First (member s) i n (i + count_trailing_zeros 64 r)) (sym (h nz)) (first_here s n i f onwards)
 
   pub seen_rest : RestIs s (i + count_trailing_zeros 64 rest + 1) (rest / 2 ^ count_trailing_zeros 64 rest / 2)
   seen_rest = subst (λ (r : ℕ). RestIs s (i + count_trailing_zeros 64 r + 1) (r / 2 ^ count_trailing_zeros 64 r / 2)) (sym (h nz)) (rest_next s i (count_trailing_zeros 64 (get_or s (i / 64) 0 / 2 ^ (i % 64))) f)
-
-  -- what is tested of it to be below n
-  pub seen_or : i ≤ n → MatchOption (then_some (ltb (i + count_trailing_zeros 64 rest) n) (record { node = i + count_trailing_zeros 64 rest; rest = rest / 2 ^ count_trailing_zeros 64 rest / 2 })) (First (member s) i n n) (λ (e : Seen). (e.node < n) × First (member s) i n e.node × RestIs s (e.node + 1) e.rest)
-  seen_or l = go (ltb (i + count_trailing_zeros 64 rest) n) refl
-    where
-      go : (b : Bool) → ltb (i + count_trailing_zeros 64 rest) n ≡ b → MatchOption (then_some b (record { node = i + count_trailing_zeros 64 rest; rest = rest / 2 ^ count_trailing_zeros 64 rest / 2 })) (First (member s) i n n) (λ (e : Seen). (e.node < n) × First (member s) i n e.node × RestIs s (e.node + 1) e.rest)
-      go true q = (ltb-true _ _ q, seen_here, seen_rest)
-      go false q = first_beyond _ _ _ _ l (ltb-false _ _ q) seen_here
 
 -- a member found in another word
 pub fresh_rest : (s : List ℕ) (node : ℕ) → get_or s (node / 64) 0 < 2 ^ 64 → RestIs s (node + 1) (get_or s (node / 64) 0 / 2 ^ (node % 64) / 2)

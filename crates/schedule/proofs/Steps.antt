@@ -1,6 +1,6 @@
 -- What taking the cells one after the other keeps.
 -- Assumes nothing.
-use Prim.Native.Nat.{ℕ, suc, ◌+◌, ◌-◌, ◌*◌, ◌≤◌, ◌<◌}
+use Prim.Native.Nat.{ℕ, suc, ◌+◌, ◌-◌, ◌*◌, ◌≤◌, ◌<◌, min}
 use mathlib.Core.Path.{◌≡◌, refl, sym, ap, ◌∙◌, subst}
 use mathlib.Core.Logic.{◌≢◌}
 use mathlib.Core.Bool.{Bool, true}
@@ -9,19 +9,21 @@ use mathlib.Core.Option.{some}
 use native.Mathlib.Omega.{arith}
 use native.Mathlib.Numerals.{add-one}
 use lib.Dec.{eqb}
-use lib.ListN.{length, set, take, drop}
+use lib.ListN.{length, get_or, set, take, drop}
 use lib.Seq.{drop-set-lt, drop-drop, take-suc-set, length-take-le}
 use Rattle.circuit.specs.Graph.{Vertex, waits, ready, fit, ready_cells}
 use Rattle.schedule.specs.Schedule.{pick, next as next_of, schedule_from, schedule_of}
 use Rattle.schedule.specs.Schedule.{key_at}
 use Rattle.schedule.specs.Areas.{ready_in, Running, Releasable, Released, Startable, Scheduled}
 use Rattle.schedule.specs.Taking.{Taking, Took, Resumable, Finished}
-use Rattle.schedule.specs.Tree.{Fronted}
+use Rattle.schedule.specs.declared.window.Window.{Window}
+use Rattle.schedule.specs.Tree.{tree_at, Fronted, Tracked}
 use Rattle.readyset.specs.Sets.{member, Levels}
 use Rattle.laws.proofs.Tests.{clash}
 use Rattle.laws.proofs.Lists.{numbers_same}
 use Rattle.circuit.proofs.Graph.{fit_snoc, left, left_fit, left_none, ready-waits}
 use Rattle.schedule.proofs.Keeping.{fronted_member, fronted_levels}
+use Rattle.schedule.proofs.Windows.{window_picked}
 use Rattle.schedule.proofs.Order.{at-end, length-numbers, next-ready}
 
 module _ (src : ℕ → ℕ) (c : List Vertex) (keys next : List ℕ) (window : ℕ) where
@@ -138,23 +140,23 @@ Onward count next keys window taken₀ order₀ area₀ taken order area =
 pub onward_fronted : (count : ℕ) (next keys : List ℕ) (window taken₀ : ℕ) (order₀ area₀ : List ℕ) (taken : ℕ) (order area after : List ℕ) → Fronted count area after → Onward count next keys window taken₀ order₀ area₀ taken order area → Onward count next keys window taken₀ order₀ area₀ taken order after
 onward_fronted count next keys window taken₀ order₀ area₀ taken order area after f on start s t = took_fronted start next keys count window taken order area after f (on start s t)
 
-module _ (count : ℕ) (next keys : List ℕ) (window taken₀ : ℕ) (order₀ area₀ : List ℕ) (taken : ℕ) (order area : List ℕ) (on : Onward count next keys window taken₀ order₀ area₀ taken order area) where
-  pub resumed : Resumable count area₀ next keys window taken₀ order₀ → Resumable count area next keys window taken order
-  resumed r = record { start = r.start; startable = r.startable; took = on r.start r.startable r.took }
+module _ (count : ℕ) (next keys : List ℕ) (window taken₀ : ℕ) (order₀ area₀ : List ℕ) (taken : ℕ) (order area : List ℕ) (on : Onward count next keys window taken₀ order₀ area₀ taken order area) (few : taken ≤ length order) where
+  pub onward_over : ready_in count area ≡ [] → Finished count area₀ next keys window taken₀ order₀ order taken
+  onward_over e start s t = took_over start next keys count window taken order area (on start s t) few e
 
-  module _ (few : taken ≤ length order) where
-    pub onward_over : ready_in count area ≡ [] → Finished count area₀ next keys window taken₀ order₀ order taken
-    onward_over e start s t = took_over start next keys count window taken order area (on start s t) few e
+  pub onward_more : (p : ℕ) → some p ≡ pick (key_at keys) (take window (ready_in count area)) → taken < length order → (after : List ℕ) → Released count area next p after → Onward count next keys window taken₀ order₀ area₀ (taken + 1) (set order taken p) after
+  onward_more p picked room after released start s t = took_more start next keys count window taken order area (on start s t) few p picked room after released
 
-    pub onward_more : (p : ℕ) → some p ≡ pick (key_at keys) (take window (ready_in count area)) → taken < length order → (after : List ℕ) → Released count area next p after → Onward count next keys window taken₀ order₀ area₀ (taken + 1) (set order taken p) after
-    onward_more p picked room after released start s t = took_more start next keys count window taken order area (on start s t) few p picked room after released
+  -- the pick that the first entry of the tree holds: there is room for it, and it may be released
+  module _ (r : Resumable count area₀ next keys window taken₀ order₀) (at : Window) (t : Tracked count keys area at) (full : at.inside ≡ min window at.number) (wide : 1 ≤ window) (more : at.number ≢ 0) where
+    pub root_picked : some (get_or area (tree_at count + 1) 0 - 1) ≡ pick (key_at keys) (take window (ready_in count area))
+    root_picked = (window_picked count keys area at t window full wide more).1
 
-module _ (count : ℕ) (area next keys : List ℕ) (window taken : ℕ) (order : List ℕ) (r : Resumable count area next keys window taken order) (few : taken ≤ length order) (p : ℕ) (picked : some p ≡ pick (key_at keys) (take window (ready_in count area))) where
-  pub resumed_room : taken < count
-  resumed_room = took_room r.start next keys count window taken order area r.took few p picked r.startable
+    pub root_room : taken < count
+    root_room = took_room r.start next keys count window taken order area (on r.start r.startable r.took) few _ root_picked r.startable
 
-  pub resumed_releasable : Releasable count area next p
-  resumed_releasable = took_releasable r.start next keys count window taken order area r.took few p picked r.startable
+    pub root_releasable : Releasable count area next (get_or area (tree_at count + 1) 0 - 1)
+    root_releasable = took_releasable r.start next keys count window taken order area (on r.start r.startable r.took) few _ root_picked r.startable
 
 pub drop_more : (order start : List ℕ) (t p : ℕ) → drop t order ≡ drop t start → drop (t + 1) (set order t p) ≡ drop (t + 1) start
 drop_more order start t p e = drop-set-lt (t + 1) order t p (omega arith) ∙ sym (drop-drop 1 t order) ∙ ap (drop 1) e ∙ drop-drop 1 t start

@@ -10,17 +10,21 @@ use native.Mathlib.Numerals.{unary_clauses}
 use Rattle.std.specs.List.{filter, range_with_len}
 use Rattle.std.proofs.lemmas.List.{drop-replicate}
 use Rattle.laws.specs.Lists.{numbers, keep}
+use Rattle.circuit.specs.Records.{node_at, is_cell_node}
 use Rattle.circuit.specs.Graph.{is_cell, cells_of}
 use Rattle.schedule.specs.Call.{graph_in, order_in}
-use Rattle.schedule.specs.Areas.{cell_at, source_of, Running, Startable, Scheduled, Filled, Listed}
+use Rattle.schedule.specs.Areas.{source_of, Running, Startable, Scheduled, Filled, Listed}
 use Rattle.laws.proofs.Lists.{numbers_same}
-use Rattle.schedule.proofs.Records.{length_in, cell-is}
+use Rattle.schedule.proofs.Records.{length_in, cell-words, cell-is}
 
-cells_are : (nodes : List ℕ) (n : ℕ) → length (numbers (cell_at nodes) 0 n) ≡ length (cells_of (graph_in nodes n))
+abbrev cell_number : List ℕ → ℕ → Bool
+cell_number nodes k = is_cell_node (node_at nodes k)
+
+cells_are : (nodes : List ℕ) (n : ℕ) → length (numbers (cell_number nodes) 0 n) ≡ length (cells_of (graph_in nodes n))
 unfolding cells_of
 cells_are nodes n =
     let e = length_in nodes n in
-    sym (ap length (ap (numbers (is_cell (graph_in nodes n)) 0) e ∙ numbers_same (cell_at nodes) (is_cell (graph_in nodes n)) 0 n (λ k a b. cell-is nodes n k (omega arith))))
+    sym (ap length (ap (numbers (is_cell (graph_in nodes n)) 0) e ∙ numbers_same (cell_number nodes) (is_cell (graph_in nodes n)) 0 n (λ k a b. cell-is nodes n k (omega arith) ∙ sym (cell-words nodes k))))
 
 -- the cells, as they are counted
 kept_numbers : (p : ℕ → Bool) (i n : ℕ) → filter p (range_with_len i n) ≡ numbers p i n
@@ -32,8 +36,8 @@ kept_numbers p i (suc n) = simp unary_clauses (go (p i) (kept_numbers p (suc i) 
     go true e = ap (λ (l : List ℕ). i ∷ l) e
     go false e = e
 
-pub counted : (nodes : List ℕ) (n : ℕ) → length (filter (cell_at nodes) (range_with_len 0 n)) ≡ length (cells_of (graph_in nodes n))
-counted nodes n = ap length (kept_numbers (cell_at nodes) 0 n) ∙ cells_are nodes n
+pub counted : (nodes : List ℕ) (n : ℕ) → length (filter (cell_number nodes) (range_with_len 0 n)) ≡ length (cells_of (graph_in nodes n))
+counted nodes n = ap length (kept_numbers (cell_number nodes) 0 n) ∙ cells_are nodes n
 
 pub started_is : (nodes : List ℕ) (count : ℕ) (area next : List ℕ) → Running (source_of nodes) (graph_in nodes count) [] area next → Startable count area next
 started_is nodes count area next run = record { src = source_of nodes; circuit = graph_in nodes count; size = length_in nodes count; running = run }

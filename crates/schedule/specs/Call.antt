@@ -1,22 +1,16 @@
 -- The call: its answer, and what every lent area holds after it.
 -- Assumes nothing.
-use Rattle.circuit.specs.declared.refusals.Refusal.{Refusal}
-use Rattle.std.specs.Prelude.{ℕ, ◌+◌, ◌-◌, ◌*◌, ◌/◌, Bool, not, ◌&&◌, List, ◌++◌, eqb, leb, length, replicate, Err, Ok, Result}
+use Rattle.std.specs.Prelude.{ℕ, ◌+◌, ◌-◌, ◌*◌, ◌/◌, Bool, not, ◌&&◌, List, ◌++◌, eqb, leb, length, replicate, Err, Ok}
 use Rattle.laws.specs.Lists.{elem, some}
 use Rattle.circuit.specs.declared.refusals.Refusal.TheVariants.{NoWindow, WrongValues, NoRoom, Circle}
-use Rattle.circuit.specs.Refusals.{Checked}
-use Rattle.circuit.specs.Refusals.{number_of, refuse_if, first_fault}
+use Rattle.circuit.specs.Refusals.{Try, Checked, refuse_if, first_fault, check_then}
 use Rattle.circuit.specs.Records.{nodes_of}
 use Rattle.circuit.specs.Check.{records_fault}
 use Rattle.circuit.specs.Graph.{Vertex, graph_of, cells_of}
 use Rattle.schedule.specs.Schedule.{key_at, schedule_of}
 
--- 01's number of an answer, and the number of cells that it gives: "A refusal returns its number, any other result 0"
-abbrev pub ordered_number : (Result ℕ Refusal) → ℕ
-ordered_number (Ok m) = 0
-ordered_number (Err e) = number_of e
-
-abbrev pub ordered_cells : (Result ℕ Refusal) → ℕ
+-- the number of cells that an answer gives: 0 on a refusal
+abbrev pub ordered_cells : Try ℕ → ℕ
 ordered_cells (Ok m) = m
 ordered_cells (Err e) = 0
 
@@ -52,11 +46,6 @@ unfoldable pub schedule_fault : List ℕ → List ℕ → ℕ → List ℕ → �
 schedule_fault nodes outputs window keys ready successors order =
     first_fault (call_fault nodes outputs window keys ready successors order) (circle_fault nodes (length nodes / 9) window keys)
 
--- "The number of cells is returned"
-abbrev pub answer_of : Checked → ℕ → (Result ℕ Refusal)
-answer_of (Ok u) cells = Ok cells
-answer_of (Err e) cells = Err e
-
 -- "the order is that many first records of its area", zeros after it; a refusal "zeros every area lent for writing"
 abbrev pub order_area : Checked → List ℕ → ℕ → List ℕ
 order_area (Ok u) order size = order ++ replicate (size - length order) 0
@@ -64,18 +53,18 @@ order_area (Err e) order size = replicate size 0
 
 -- what a call leaves: "The .. ready and successor areas .. are work areas, zero after any call"
 pub record Left : Type 0 where
-  pub answer : (Result ℕ Refusal)
+  pub answer : Try ℕ
   pub ready : List ℕ
   pub successors : List ℕ
   pub order : List ℕ
 
-abbrev pub leaves : (Result ℕ Refusal) → List ℕ → List ℕ → List ℕ → Left
+abbrev pub leaves : Try ℕ → List ℕ → List ℕ → List ℕ → Left
 leaves answer ready successors order = record { answer = answer; ready = ready; successors = successors; order = order }
 
--- the areas, by their sizes, after a call with this fault
+-- the answer and the areas, by their sizes, after a call with this fault: "The number of cells is returned"
 abbrev pub left_by : Checked → ℕ → List ℕ → ℕ → ℕ → ℕ → Left
 left_by fault cells order ready successors size =
-    leaves (answer_of fault cells) (replicate ready 0) (replicate successors 0) (order_area fault order size)
+    leaves (check_then fault (Ok cells)) (replicate ready 0) (replicate successors 0) (order_area fault order size)
 
 unfoldable pub schedule_call : List ℕ → List ℕ → ℕ → List ℕ → List ℕ → List ℕ → List ℕ → Left
 schedule_call nodes outputs window keys ready successors order =

@@ -4,3 +4,4 @@ pub mod Promises
 pub mod Areas
 pub mod Tree
 pub mod Taking
+pub mod Members

@@ -56,6 +56,10 @@ pub record Joined (key : ℕ → Key) (leaves n : ℕ) (tree : List ℕ) (start 
 abbrev pub tree_at : ℕ → ℕ
 tree_at n = 2 * n + 2 * (n / 64 + 1)
 
+-- what writing leaves asks: a set of more than one word, and room for n nodes
+abbrev pub Rankable : ℕ → ℕ → List ℕ → List ℕ → Type 0
+Rankable n limit keys area = (64 ≤ n) × (limit ≤ n) × (3 * n ≤ length area) × (3 * n ≤ length keys)
+
 -- the leaf of the word w is the entry of its ready nodes below a limit
 abbrev pub LeafIs : ℕ → ℕ → List ℕ → List ℕ → ℕ → Type 0
 LeafIs n limit keys area w = Winner (key_at keys) (InWord (drop (2 * n) area) limit w) (get_or (drop (tree_at n) area) (n / 64 + 1 + w) 0)

@@ -12,6 +12,7 @@ pub struct Key {
 }
 
 // The key of a node.
+#[tactic(auto, unfolding(crate::specs::Schedule::key_at))]
 pub fn key_at(keys: &[u32], node: usize) -> Key
     requires { 3 * node + 2 < length keys.now }
     ensures { key_of result ≡ key_at keys.now node }

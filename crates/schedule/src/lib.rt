@@ -10,6 +10,7 @@ use circuit::areas::clear_all;
 use circuit::refusals::Refusal;
 
 pub mod keys;
+pub mod members;
 pub mod ordering;
 pub mod picking;
 pub mod reads;
@@ -20,6 +21,7 @@ pub mod waiting;
 pub mod window;
 
 // The order of the cells in the first records of `order`, and how many they are; 15, 18, 19, 3, 17.
+// Nodes and outputs come as two slices, and the areas one by one, as the C interface lends them.
 pub fn scheduled_gates_by_key(
     nodes: &[usize],
     outputs: &[usize],

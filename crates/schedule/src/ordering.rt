@@ -9,6 +9,7 @@ use crate::taking::{count_cells, fresh_order};
 use circuit::check::check_records;
 use circuit::nodes::Nodes;
 use circuit::refusals::Refusal;
+use std::num::NonZeroUsize;
 
 // Whether the areas have room for n nodes.
 pub fn has_room(n: usize, ready: usize, successors: usize, order: usize) -> bool
@@ -18,7 +19,7 @@ pub fn has_room(n: usize, ready: usize, successors: usize, order: usize) -> bool
     3 * n <= ready && 2 * n < successors && n <= order
 }
 
-// 15, 18, 19, 3: the areas by their sizes.
+// 15, 18, 19, 3: the areas by their sizes. Nodes and outputs come as two slices, as the C interface lends them: whether they are whole records is asked here.
 pub fn call_fault(
     nodes: &[usize],
     outputs: &[usize],
@@ -44,7 +45,7 @@ pub fn call_fault(
     Ok(())
 }
 
-// The order, or 17 where some cells read in a circle.
+// The order, or 17 where some cells read in a circle. Nodes and areas come as the C interface lends them.
 pub fn order_or_circle(
     nodes: &[usize],
     keys: &[u32],
@@ -59,6 +60,7 @@ pub fn order_or_circle(
     let netlist = Netlist {
         nodes: Nodes::of(nodes),
     };
+    let window = NonZeroUsize::new(window).unwrap();
     let taken = fresh_order(netlist, keys, window, ready, successors, order);
     ready.fill(0);
     successors.fill(0);

@@ -17,13 +17,14 @@ pub fn wire_at(nodes: Nodes, node: usize, position: usize) -> Option<usize>
     ensures { MatchOption result (0 ≡ wire_at nodes.entry.words.now node position) (λ w. w ≡ wire_at nodes.entry.words.now node position) }
 {
     let at = 9 * node;
-    if nodes.words[at] != 2 || nodes.words[at + 1] <= position {
+    if !nodes.is_cell(node) || nodes.words[at + 1] <= position {
         return None;
     }
     Some(nodes.words[at + 7 + position])
 }
 
 // Puts a read at the front of its source's chain.
+#[tactic(auto, unfolding(crate::specs::Areas::head_set, crate::specs::Areas::next_set))]
 pub fn link(area: &mut [usize], next: &mut [usize], edge: usize, from: Option<usize>)
     requires { (3 * entry_of from ≤ length area.old) × (edge < length next.old) }
     ensures { (area.new ≡ head_set area.old edge (entry_of from)) × (next.new ≡ next_set area.old next.old edge (entry_of from)) }
@@ -43,7 +44,7 @@ impl<'a> Netlist<'a> {
         ensures { entry_of result ≡ source_of self.entry.nodes.words.now edge }
     {
         let node = wire_at(self.nodes, (edge - 1) / 2, (edge - 1) % 2)?.checked_sub(2)?;
-        (self.nodes.words[9 * node] == 2).then_some(node)
+        self.nodes.is_cell(node).then_some(node)
     }
 
     // Chains every read of a cell, each chain from its last read down.

@@ -1,4 +1,4 @@
-// Cells released while the tree of the best ready cells is kept.
+// Cells released while the tree of the best ready cells is kept. Of `area`, `keys` and `count` beside the window window.rt says why.
 ghost use Rattle.std.specs.Prelude.{◌≡◌, true, false, ◌+◌, ◌*◌, ◌<◌, ◌≤◌, length, get_or, drop};
 ghost use Rattle.readyset.specs.Sets.{member};
 ghost use Rattle.schedule.specs.Areas.{Moved, Lowered, Releasable, Released};

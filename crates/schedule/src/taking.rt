@@ -1,5 +1,6 @@
 // Cell after cell is taken, until none is ready.
 ghost use Rattle.std.specs.Prelude.{◌≡◌, ◌≢◌, ◌+◌, ◌*◌, ◌<◌, ◌≤◌, min, length, drop};
+ghost use Rattle.std.specs.Int.NonZero.{non_zero_usize_get};
 ghost use Rattle.circuit.specs.Graph.{cells_of};
 ghost use Rattle.schedule.specs.Call.{graph_in};
 ghost use Rattle.schedule.specs.Areas.{Counted, Startable, Scheduled, Filled, Listed};
@@ -8,9 +9,11 @@ ghost use Rattle.schedule.specs.Tree.{Tracked};
 
 use crate::picking::pick_next;
 use crate::reads::Netlist;
+use crate::tree::tree_at;
 use crate::waiting::{ReadyCells, open_all, release};
 use crate::window::Window;
 use circuit::nodes::Nodes;
+use std::num::NonZeroUsize;
 
 // How many cells are taken, and what is known of the ready ones.
 #[derive(Clone, Copy)]
@@ -34,18 +37,18 @@ pub fn take_scanning(
     keys: &[u32],
     order: &mut [usize],
     count: usize,
-    window: usize,
+    window: NonZeroUsize,
     start: ReadyCells,
 ) -> Taken
-    requires { Startable count area.old next.now × (3 * count ≤ length keys.now) × (count ≤ length order.old) × (1 ≤ window) × Counted count area.old start }
-    ensures { Took area.old next.now keys.now count window result.taken order.new area.new × (result.taken ≤ length order.new) × (drop result.taken order.new ≡ drop result.taken order.old) × Counted count area.new result.cells × ((result.cells.number ≢ 0) → 64 ≤ count) }
+    requires { Startable count area.old next.now × (3 * count ≤ length keys.now) × (count ≤ length order.old) × Counted count area.old start }
+    ensures { Took area.old next.now keys.now count (non_zero_usize_get window) result.taken order.new area.new × (result.taken ≤ length order.new) × (drop result.taken order.new ≡ drop result.taken order.old) × Counted count area.new result.cells × ((result.cells.number ≢ 0) → 64 ≤ count) }
 {
     let mut taken = 0;
     let mut cells = start;
     let mut budget = count;
     // A `while`: how many cells become ready shows only as they are taken.
     while cells.number != 0 {
-        let cost = scanned(count, window, cells.number);
+        let cost = scanned(count, window.get(), cells.number);
         let Some(left) = budget.checked_sub(cost) else {
             break;
         };
@@ -69,23 +72,23 @@ pub fn take_ranked(
     keys: &[u32],
     order: &mut [usize],
     count: usize,
-    window: usize,
+    window: NonZeroUsize,
     done: usize,
     start: Window,
 ) -> usize
-    requires { Resumable count area.old next.now keys.now window done order.old × (3 * count ≤ length keys.now) × (count ≤ length order.old) × (1 ≤ window) × (done ≤ length order.old) × Tracked count keys.now area.old start × (start.inside ≡ min window start.number) }
-    ensures { Finished count area.old next.now keys.now window done order.old order.new result × ((done ≤ result) × (drop result order.new ≡ drop result order.old)) }
+    requires { Resumable count area.old next.now keys.now (non_zero_usize_get window) done order.old × (3 * count ≤ length keys.now) × (count ≤ length order.old) × (done ≤ length order.old) × Tracked count keys.now area.old start × (start.inside ≡ min (non_zero_usize_get window) start.number) }
+    ensures { Finished count area.old next.now keys.now (non_zero_usize_get window) done order.old order.new result × ((done ≤ result) × (drop result order.new ≡ drop result order.old)) }
 {
     let mut taken = done;
     let mut at = start;
-    let root = 2 * count + 2 * (count / 64 + 1) + 1;
+    let root = tree_at(count) + 1;
     // A `while`: how many cells become ready shows only as they are taken.
     while at.number != 0 {
         let node = area[root] - 1;
         order[taken] = node;
         taken += 1;
         let left = at.release(area, next, keys, count, node);
-        at = left.settle(area, keys, count, window);
+        at = left.settle(area, keys, count, window.get());
     }
     taken
 }
@@ -97,17 +100,17 @@ pub fn take_all(
     keys: &[u32],
     order: &mut [usize],
     count: usize,
-    window: usize,
+    window: NonZeroUsize,
     start: ReadyCells,
 ) -> usize
-    requires { Startable count area.old next.now × (3 * count ≤ length keys.now) × (count ≤ length order.old) × (1 ≤ window) × Counted count area.old start }
-    ensures { Scheduled count area.old next.now keys.now window order.new result × (drop result order.new ≡ drop result order.old) }
+    requires { Startable count area.old next.now × (3 * count ≤ length keys.now) × (count ≤ length order.old) × Counted count area.old start }
+    ensures { Scheduled count area.old next.now keys.now (non_zero_usize_get window) order.new result × (drop result order.new ≡ drop result order.old) }
 {
     let first = take_scanning(area, next, keys, order, count, window, start);
     if first.cells.number == 0 {
         return first.taken;
     }
-    let at = Window::ranked(area, keys, count, window, first.cells);
+    let at = Window::ranked(area, keys, count, window.get(), first.cells);
     take_ranked(area, next, keys, order, count, window, first.taken, at)
 }
 
@@ -115,22 +118,20 @@ pub fn take_all(
 pub fn count_cells(nodes: Nodes) -> usize
     ensures { result ≡ length (cells_of (graph_in nodes.entry.words.now nodes.entry.count)) }
 {
-    (0..nodes.count)
-        .filter(|&node| nodes.words[9 * node] == 2)
-        .count()
+    (0..nodes.count).filter(|&node| nodes.is_cell(node)).count()
 }
 
 // The order of the cells, in the first records of the order area; returns how many.
 pub fn order_cells(
     netlist: Netlist,
     keys: &[u32],
-    window: usize,
+    window: NonZeroUsize,
     area: &mut [usize],
     next: &mut [usize],
     order: &mut [usize],
 ) -> usize
-    requires { (3 * netlist.nodes.count ≤ length area.old) × (2 * netlist.nodes.count < length next.old) × (3 * netlist.nodes.count ≤ length keys.now) × (netlist.nodes.count ≤ length order.old) × (1 ≤ window) }
-    ensures { Filled netlist.entry.nodes.words.now netlist.entry.nodes.count keys.now window order.old order.new result }
+    requires { (3 * netlist.nodes.count ≤ length area.old) × (2 * netlist.nodes.count < length next.old) × (3 * netlist.nodes.count ≤ length keys.now) × (netlist.nodes.count ≤ length order.old) }
+    ensures { Filled netlist.entry.nodes.words.now netlist.entry.nodes.count keys.now (non_zero_usize_get window) order.old order.new result }
 {
     area.fill(0);
     netlist.link_all(area, next);
@@ -142,13 +143,13 @@ pub fn order_cells(
 pub fn fresh_order(
     netlist: Netlist,
     keys: &[u32],
-    window: usize,
+    window: NonZeroUsize,
     area: &mut [usize],
     next: &mut [usize],
     order: &mut [usize],
 ) -> usize
-    requires { (3 * netlist.nodes.count ≤ length area.old) × (2 * netlist.nodes.count < length next.old) × (3 * netlist.nodes.count ≤ length keys.now) × (netlist.nodes.count ≤ length order.old) × (1 ≤ window) }
-    ensures { Listed netlist.entry.nodes.words.now netlist.entry.nodes.count keys.now window order.new result }
+    requires { (3 * netlist.nodes.count ≤ length area.old) × (2 * netlist.nodes.count < length next.old) × (3 * netlist.nodes.count ≤ length keys.now) × (netlist.nodes.count ≤ length order.old) }
+    ensures { Listed netlist.entry.nodes.words.now netlist.entry.nodes.count keys.now (non_zero_usize_get window) order.new result }
 {
     order.fill(0);
     order_cells(netlist, keys, window, area, next, order)

@@ -1,8 +1,9 @@
 // The tree of the best ready cells, in the ready area after the set of ready nodes: its first entry is the best of all.
 // An entry is a word of that lent area: 0 for no node, or the node's number and 1.
-ghost use Rattle.std.specs.Prelude.{◌≡◌, not, cond, ◌+◌, ◌*◌, ◌/◌, ◌<◌, ◌≤◌, eqb, length, get_or, set};
+// `area`, `keys` and `count` go together, and stand in no struct: waiting.rt says why of the area, keys.rt of keys and count.
+ghost use Rattle.std.specs.Prelude.{◌≡◌, not, cond, ◌+◌, ◌*◌, ◌/◌, ◌^◌, ◌<◌, ◌≤◌, eqb, length, get_or, set};
 ghost use Rattle.schedule.specs.Schedule.{key_at, above};
-ghost use Rattle.schedule.specs.Tree.{ahead, Winner, InWord, better_of, Joined, LeavesKept, LeafPut, LeavesPut, Ranked, Fronted};
+ghost use Rattle.schedule.specs.Tree.{ahead, Winner, InWord, better_of, Joined, LeavesKept, tree_at, Rankable, LeafPut, LeavesPut, Ranked, Fronted};
 
 use crate::keys::Best;
 
@@ -83,15 +84,30 @@ pub fn join_all(tree: &mut [usize], keys: &[u32], leaves: usize, nodes: usize)
     }
 }
 
+// How many leaves the tree of so many nodes has: one for each word of their set.
+pub fn leaves(count: usize) -> usize
+    ensures { result ≡ count / 64 + 1 }
+{
+    count / 64 + 1
+}
+
+// Where the tree begins in the ready area: after two words for each node, and the set with its summaries.
+pub fn tree_at(count: usize) -> usize
+    requires { tree_at count < 2 ^ 64 }
+    ensures { result ≡ tree_at count }
+{
+    2 * count + 2 * leaves(count)
+}
+
 // Writes the leaf of the word w.
 pub fn put_leaf(area: &mut [usize], keys: &[u32], count: usize, limit: usize, w: usize)
-    requires { (64 ≤ count) × (limit ≤ count) × (3 * count ≤ length area.old) × (3 * count ≤ length keys.now) × (w < count / 64 + 1) }
+    requires { Rankable count limit keys.now area.old × (w < count / 64 + 1) }
     ensures { LeafPut count limit keys.now area.old w area.new }
 {
     let from = 2 * count;
     let best = leaf(&area[from..], keys, limit, w);
-    let leaves = count / 64 + 1;
-    area[2 * count + 2 * leaves + (leaves + w)] = best;
+    let at = tree_at(count) + (leaves(count) + w);
+    area[at] = best;
 }
 
 // Makes the tree right after the word w of the set changed.
@@ -100,28 +116,27 @@ pub fn refresh(area: &mut [usize], keys: &[u32], count: usize, limit: usize, w: 
     ensures { Ranked count limit keys.now area.new (count / 64 + 1) × Fronted count area.old area.new }
 {
     put_leaf(area, keys, count, limit, w);
-    let leaves = count / 64 + 1;
-    let base = 2 * count + 2 * leaves;
+    let base = tree_at(count);
+    let leaves = leaves(count);
     climb(&mut area[base..], keys, leaves, count, (leaves + w) / 2);
 }
 
 // Writes every leaf.
 pub fn put_leaves(area: &mut [usize], keys: &[u32], count: usize, limit: usize)
-    requires { (64 ≤ count) × (limit ≤ count) × (3 * count ≤ length area.old) × (3 * count ≤ length keys.now) }
+    requires { Rankable count limit keys.now area.old }
     ensures { LeavesPut count limit keys.now area.old (count / 64 + 1) area.new }
 {
-    for w in 0..count / 64 + 1 {
+    for w in 0..leaves(count) {
         put_leaf(area, keys, count, limit, w);
     }
 }
 
 // The tree of the ready nodes below the limit.
 pub fn rank(area: &mut [usize], keys: &[u32], count: usize, limit: usize)
-    requires { (64 ≤ count) × (limit ≤ count) × (3 * count ≤ length area.old) × (3 * count ≤ length keys.now) }
+    requires { Rankable count limit keys.now area.old }
     ensures { Ranked count limit keys.now area.new (count / 64 + 1) × Fronted count area.old area.new }
 {
     put_leaves(area, keys, count, limit);
-    let leaves = count / 64 + 1;
-    let base = 2 * count + 2 * leaves;
-    join_all(&mut area[base..], keys, leaves, count);
+    let base = tree_at(count);
+    join_all(&mut area[base..], keys, leaves(count), count);
 }

@@ -1,4 +1,5 @@
 // The ready area: the reads that each node waits for, and the set of ready nodes.
+// The C interface lends it, and it stands in no struct: a clause would name it `ready.old.words.now` and `ready.new.words.now`, longer than `area.old` and `area.new`, and promise that its count stays.
 ghost use Rattle.std.specs.Prelude.{◌≡◌, [], true, ◌&&◌, ◌+◌, ◌*◌, ◌^◌, ◌<◌, ◌≤◌, min, eqb, length, get_or, drop};
 ghost use Rattle.readyset.specs.Sets.{Levels};
 ghost use Rattle.schedule.specs.Call.{graph_in};
@@ -6,7 +7,6 @@ ghost use Rattle.schedule.specs.Areas.{source_of, Linked, Empty, Running, Counte
 ghost use Rattle.schedule.specs.Tree.{Kept};
 
 use crate::reads::Netlist;
-use circuit::nodes::Nodes;
 
 // What is known of the ready cells: none is below `from`, and `number` counts them.
 #[derive(Clone, Copy)]
@@ -93,10 +93,10 @@ pub fn release(
 }
 
 // Whether a node is ready before anything is taken: a cell that waits for nothing.
-pub fn is_ready(kind: usize, left: usize) -> bool
-    ensures { result ≡ eqb kind 2 && eqb left 0 }
+pub fn is_ready(is_cell: bool, left: usize) -> bool
+    ensures { result ≡ is_cell && eqb left 0 }
 {
-    kind == 2 && left == 0
+    is_cell && left == 0
 }
 
 // What a node waits for, and whether it is ready, before anything is taken.
@@ -104,10 +104,9 @@ pub fn open(netlist: Netlist, area: &mut [usize], node: usize, cells: ReadyCells
     requires { Notable netlist.nodes.count area.old node cells }
     ensures { Opened netlist.entry.nodes.words.now netlist.entry.nodes.count area.old node area.new × Counted netlist.entry.nodes.count area.new result }
 {
-    let Nodes { words, count } = netlist.nodes;
     let left = netlist.cells_read(node);
-    let up = is_ready(words[9 * node], left);
-    note(area, count, node, left, up, cells)
+    let up = is_ready(netlist.nodes.is_cell(node), left);
+    note(area, netlist.nodes.count, node, left, up, cells)
 }
 
 // The same of every node, from an empty set.

@@ -1,4 +1,5 @@
 // The ready cells that a step may take: the smallest, up to a limit, are in the tree.
+// `area`, `keys` and `count` come to each method beside it: waiting.rt says why the area stands in no struct, keys.rt why keys and count don't.
 ghost use Rattle.std.specs.Prelude.{◌≡◌, ◌+◌, ◌-◌, ◌*◌, ◌<◌, ◌≤◌, min, length, drop};
 ghost use Rattle.readyset.specs.Sets.{Levels};
 ghost use Rattle.schedule.specs.Areas.{Counted};

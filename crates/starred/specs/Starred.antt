@@ -6,14 +6,14 @@ use Rattle.laws.specs.Stretches.{same_bytes}
 use Rattle.circuit.specs.declared.records.BoolNode.{BoolNode}
 use Rattle.circuit.specs.declared.records.BoolWire.{BoolWire}
 use Rattle.circuit.specs.declared.records.Output.{Output}
-use Rattle.circuit.specs.Refusals.{Try}
+use Rattle.circuit.specs.Refusals.{Try, checked_number}
 use Rattle.circuit.specs.Records.{wire_word}
 use Rattle.circuit.specs.Circuits.{Circuit, node_words, output_words}
 use Rattle.text.specs.Joining.{joined_text}
 use Rattle.blif.specs.Blif.{blif}
 use Rattle.bench.specs.Bench.{bench}
 use Rattle.bristol.specs.Bristol.{bristol_circuit}
-use Rattle.schedule.specs.Call.{Left, ordered_number, ordered_cells, schedule_call}
+use Rattle.schedule.specs.Call.{Left, ordered_cells, schedule_call}
 use Rattle.runs.specs.Values.{storage_outputs}
 use Rattle.runs.specs.Calls.{run_call}
 use Rattle.listing.specs.Ascii.{ascii}
@@ -116,5 +116,5 @@ starred =
     -- "* Bristol `0 1`, `1 1`, `0` accepted": one input and no outputs
     ∷ row (shape (from_bristol "0 1\n1 1\n0\n")) (1 ∷ [])
     -- "* window 0: 18"
-    ∷ row (ordered_number (scheduled 0 (from_blif sample)).answer ∷ []) (18 ∷ [])
+    ∷ row (checked_number (scheduled 0 (from_blif sample)).answer ∷ []) (18 ∷ [])
     ∷ []

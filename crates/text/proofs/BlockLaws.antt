@@ -1,12 +1,12 @@
--- A byte looked for in blocks: a block told by a fold, and blocks that are passed.
+-- A byte looked for in blocks: blocks that are passed.
 -- Assumes nothing.
 use Prim.Native.Nat.{ℕ, ◌+◌, ◌-◌, ◌≤◌}
-use mathlib.Core.Path.{◌≡◌, refl, sym, ap, ◌∙◌}
-use mathlib.Core.Bool.{Bool, true, false, not, ◌||◌}
-use mathlib.Core.List.{List, [], ◌∷◌, ◌++◌}
+use mathlib.Core.Path.{◌≡◌, refl, ap}
+use mathlib.Core.Bool.{Bool, false, not, ◌||◌}
+use mathlib.Core.List.{List, [], ◌∷◌}
 use native.Mathlib.Omega.{arith}
-use lib.Dec.{eqb}
 use lib.ListN.{length}
+use Rattle.std.specs.List.{list_any}
 use Rattle.laws.specs.Lists.{some}
 use Rattle.laws.specs.Stretches.{stretch, run, is_not}
 use Rattle.laws.proofs.Lists.{none_at}
@@ -14,18 +14,10 @@ use Rattle.laws.proofs.Stretches.{length-stretch}
 use Rattle.text.specs.Bytes.{is_byte}
 use Rattle.text.proofs.RunLaws.{run_full, pass_near}
 
--- one more byte of a block
-or_assoc : (a b c : Bool) → (a || b) || c ≡ a || (b || c)
-or_assoc true b c = refl
-or_assoc false b c = refl
-
-or-false : (a : Bool) → a ≡ a || false
-or-false true = refl
-or-false false = refl
-
-pub some_push : (x : ℕ) (l : List ℕ) (b : ℕ) → some (is_byte x) (l ++ (b ∷ [])) ≡ some (is_byte x) l || eqb b x
-some_push x [] b = sym (or-false (eqb b x))
-some_push x (a ∷ l) b = ap (λ (t : Bool). eqb a x || t) (some_push x l b) ∙ sym (or_assoc (eqb a x) (some (is_byte x) l) (eqb b x))
+-- `contains`, as the definitions say it
+pub some_any : (p : ℕ → Bool) (l : List ℕ) → list_any p l ≡ some p l
+some_any p [] = refl
+some_any p (x ∷ xs) = ap (λ (t : Bool). p x || t) (some_any p xs)
 
 -- a block without it is passed
 pub block_passed : (t : List ℕ) (x i end : ℕ) → i + 32 ≤ end → end ≤ length t → some (is_byte x) (stretch t i 32) ≡ false

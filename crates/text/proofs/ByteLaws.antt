@@ -1,7 +1,8 @@
 -- Bytes of a whole list: the greatest of them, and words compared byte by byte.
 -- Assumes nothing.
+use Rattle.std.proofs.Math.Bool.{and-true, and_assoc}
 use Prim.Native.Nat.{ℕ, ◌-◌, max}
-use mathlib.Core.Path.{◌≡◌, refl, ap, ap₂, ◌∙◌}
+use mathlib.Core.Path.{◌≡◌, refl, sym, ap, ap₂, ◌∙◌}
 use mathlib.Core.Bool.{Bool, true, false, cond, ◌&&◌}
 use mathlib.Core.List.{List, [], ◌∷◌, map}
 use native.Mathlib.Omega.{arith}
@@ -24,17 +25,9 @@ below_max h b = go (ltb h 128) (ltb b 128) refl refl
     go true false e f = le-ltb (max h b) 128 (omega (arith, ltb-false b 128 f))
     go false q e f = le-ltb (max h b) 128 (omega (arith, ltb-false h 128 e))
 
-and_assoc : (a b c : Bool) → (a && b) && c ≡ a && (b && c)
-and_assoc true b c = refl
-and_assoc false b c = refl
-
-and-true : (a : Bool) → a ≡ a && true
-and-true true = refl
-and-true false = refl
-
 pub ascii_fold : (h : ℕ) (l : List ℕ) → ltb (fold max h l) 128 ≡ ltb h 128 && is_ascii l
 unfolding is_ascii
-ascii_fold h [] = and-true (ltb h 128)
+ascii_fold h [] = sym (and-true (ltb h 128))
 ascii_fold h (b ∷ bs) = ascii_fold (max h b) bs ∙ ap (λ (t : Bool). t && is_ascii bs) (below_max h b) ∙ and_assoc (ltb h 128) (ltb b 128) (is_ascii bs)
 
 -- words compared, as `==` of slices does it, and as all pairs of a `zip`

@@ -139,18 +139,6 @@ module _ (t : List ℕ) (from end : ℕ) where
         → words from (stretch t from (end - from)) ≡ w ∷ words (w.start + w.len) (stretch t (w.start + w.len) (end - (w.start + w.len)))
     first_word nz = rw e (next' (rw e at nz))
 
-    start_is : w.start ≡ from + run is_blank (stretch t from (end - from))
-    unfolding next_word
-    start_is = ap (λ (x : Word). x.start) e
-
-    -- where there is no word, there is none after it
-    pub none_after : w.len ≡ 0 → words (w.start + w.len) (stretch t (w.start + w.len) (end - (w.start + w.len))) ≡ []
-    none_after z =
-        let l : List ℕ = stretch t from (end - from) in
-        let k : ℕ = run is_blank l in
-        let p : w.start + w.len ≡ from + k = omega (arith, start_is) in
-        rw (p, ← drop-part k t from end, ← words_skip from l) (no_word z)
-
 pub words_over : (t : List ℕ) (at end : ℕ) → end ≤ at → words at (stretch t at (end - at)) ≡ []
 unfolding words
 words_over t at end h = rw (rest_end t at end at h)

@@ -2,6 +2,7 @@
 -- Assumes nothing.
 use Prim.Native.Nat.{ℕ, zero, suc, ◌+◌, ◌-◌, ◌≤◌}
 use mathlib.Core.Path.{◌≡◌, refl, sym, ap, ◌∙◌}
+use Rattle.std.proofs.Math.Bool.{and-true}
 use mathlib.Core.Bool.{Bool, true, false, cond, not, ◌&&◌, ◌||◌, false≢true}
 use mathlib.Core.List.{List, [], ◌∷◌, ◌++◌, map, append_assoc, append-nil}
 use native.Mathlib.Omega.{arith}
@@ -9,6 +10,8 @@ use lib.ListN.{length, length-append, take, drop}
 use lib.Seq.{length-take-le}
 use lib.Dec.{eqb}
 use borrow.Author.Tests.{eq-eqb, ne_eqb, eqb-true, eqb-false}
+use Rattle.std.specs.Prelude.{Option}
+use Rattle.std.specs.Bool.{then_some}
 use Rattle.std.specs.List.{ends_with}
 use Rattle.std.specs.Cmp.Lexicographic.{pointwise}
 use Rattle.laws.proofs.Stretches.{empty-length}
@@ -16,7 +19,7 @@ use Rattle.text.specs.Blanks.{trim_end}
 use Rattle.text.specs.Words.{bytes_of}
 use Rattle.text.specs.Lines.{raw_lines, lines, kept}
 use Rattle.text.specs.Joining.{continued, all_but_last, part, joined_text}
-use Rattle.text.specs.Writing.{added, still, added_by, still_by, written, Puts}
+use Rattle.text.specs.Writing.{one_or_none, added, still, added_by, still_by, written, Puts}
 use Rattle.text.specs.declared.words.Word.{Word}
 use Rattle.text.proofs.LineLaws.{lines_bytes}
 use Rattle.text.proofs.JoinLaws.{written-fits, joined-written}
@@ -48,20 +51,41 @@ front_cut (b ∷ []) (suc n) e = absurd (omega arith)
 front_cut (b ∷ c ∷ cs) zero e = absurd (omega arith)
 front_cut (b ∷ c ∷ cs) (suc n) e = ap (λ (x : List ℕ). b ∷ x) (front_cut (c ∷ cs) n (omega arith))
 
-pub continued_some : (l : List ℕ) → continued l ≡ true → 1 ≤ length l
+continued_some : (l : List ℕ) → continued l ≡ true → 1 ≤ length l
 unfolding continued
 continued_some [] e = absurd (false≢true e)
 continued_some (b ∷ bs) e = omega arith
 
-pub part_continued : (l : List ℕ) → continued l ≡ true → trim_end (take (length l - 1) l) ≡ part l
-unfolding part
-part_continued l e = rw (e, front_cut l (length l - 1) (omega (arith, continued_some l e)))
+-- whether the last byte is `\`, as `strip_suffix` asks it
+suffix_cut : (l : List ℕ) (n : ℕ) → suc n ≡ length l → pointwise eqb (drop n l) (92 ∷ []) ≡ continued l
+unfolding continued
+suffix_cut [] n e = absurd (omega arith)
+suffix_cut (b ∷ []) zero e = and-true (eqb b 92)
+suffix_cut (b ∷ []) (suc n) e = absurd (omega arith)
+suffix_cut (b ∷ c ∷ cs) zero e = absurd (omega arith)
+suffix_cut (b ∷ c ∷ cs) (suc n) e = suffix_cut (c ∷ cs) n (omega arith)
 
-pub part_whole : (l : List ℕ) → continued l ≡ false → l ≡ part l
+suffix_continued : (l : List ℕ) → pointwise eqb (drop (length l - 1) l) (92 ∷ []) ≡ continued l
+unfolding continued
+suffix_continued [] = refl
+suffix_continued (b ∷ bs) = suffix_cut (b ∷ bs) (length (b ∷ bs) - 1) (omega arith)
+
+pub part_continued : (l : List ℕ) → pointwise eqb (drop (length l - 1) l) (92 ∷ []) ≡ true → trim_end (take (length l - 1) l) ≡ part l
 unfolding part
-part_whole l e = rw e
+part_continued l h =
+    let e : continued l ≡ true = sym (suffix_continued l) ∙ h in
+    rw (e, front_cut l (length l - 1) (omega (arith, continued_some l e)))
+
+pub part_whole : (l : List ℕ) → pointwise eqb (drop (length l - 1) l) (92 ∷ []) ≡ false → l ≡ part l
+unfolding part
+part_whole l h = rw (sym (suffix_continued l) ∙ h)
 
 -- ---- what the functions that write put
+
+pub one_if : (g : Bool) (b : ℕ) (o : Option ℕ) → o ≡ then_some g b → one_or_none o ≡ cond g (b ∷ []) []
+unfolding one_or_none
+one_if true b o e = rw e refl
+one_if false b o e = rw e refl
 
 pub puts_then : (a b c x y : List ℕ) (o p q : ℕ) → Puts a b o p x → Puts b c p q y → Puts a c o q (x ++ y)
 puts_then a b c x y o p q u v =

@@ -1,9 +1,14 @@
 -- The joined text as it is written, one raw line after the other: what each adds, and whether something is gathered after it.
 -- Assumes nothing.
-use Rattle.std.specs.Prelude.{ℕ, ◌+◌, ◌≡◌, Bool, cond, not, ◌&&◌, ◌||◌, List, [], ◌∷◌, ◌++◌, length, take}
+use Rattle.std.specs.Prelude.{ℕ, ◌+◌, ◌≡◌, Bool, cond, not, ◌&&◌, ◌||◌, Option, None, Some, List, [], ◌∷◌, ◌++◌, length, take}
 use Rattle.laws.specs.Stretches.{is_empty}
 use Rattle.text.specs.Lines.{kept}
 use Rattle.text.specs.Joining.{continued, part}
+
+-- a byte, if there is one
+unfoldable pub one_or_none : Option ℕ → List ℕ
+one_or_none None = []
+one_or_none (Some b) = b ∷ []
 
 -- what a kept line adds: a space if something is gathered, its part, and byte 10 unless it is continued
 unfoldable pub added : Bool → List ℕ → List ℕ

@@ -4,7 +4,7 @@ ghost use Rattle.laws.specs.Stretches.{stretch, run};
 ghost use Rattle.text.specs.Blanks.{is_blank, not_blank, trim_end};
 
 use crate::bytes::find_where;
-use crate::eights::find_between;
+use crate::eights::{Limits, find_between};
 
 // Whether a byte is 9 to 13 or 32.
 #[tactic(auto, unfolding(crate::specs::Blanks::is_blank))]
@@ -14,29 +14,28 @@ pub fn is_blank(b: u8) -> bool
     b == b' ' || (b'\t' <= b && b <= b'\r')
 }
 
-// The first place from `from` on, before `end`, that holds no blank; `end` if there is none.
-pub fn skip_blanks(text: &[u8], from: usize, end: usize) -> usize
-    requires { (from ≤ end) × (end ≤ length text.now) }
-    ensures { (result ≡ from + run is_blank (stretch text.now from (end - from))) × (result ≤ end) }
+// How many blanks are in front.
+pub fn skip_blanks(bytes: &[u8]) -> usize
+    ensures { (result ≡ run is_blank bytes.now) × (result ≤ length bytes.now) }
 {
-    find_where(text, from, end, |b| !is_blank(b))
+    find_where(bytes, |b| !is_blank(b))
 }
 
-// The first place from `from` on, before `end`, that holds a blank, byte by byte; `end` if there is none.
-pub fn scan_blank(text: &[u8], from: usize, end: usize) -> usize
-    requires { (from ≤ end) × (end ≤ length text.now) }
-    ensures { (result ≡ from + run not_blank (stretch text.now from (end - from))) × (result ≤ end) }
+// How many bytes come before the first blank, byte by byte; all of them if there is none.
+pub fn scan_blank(bytes: &[u8]) -> usize
+    ensures { (result ≡ run not_blank bytes.now) × (result ≤ length bytes.now) }
 {
-    find_where(text, from, end, is_blank)
+    find_where(bytes, is_blank)
 }
 
-// The same, eight bytes at a time: a blank lies from 9 to 32, and what else lies there is rare.
+// The first place from `from` on, before `end`, that holds a blank; `end` if there is none.
+// Eight bytes at a time, which may lie past `end`: a blank lies from 9 to 32, and what else lies there is rare.
 pub fn find_blank(text: &[u8], from: usize, end: usize) -> usize
     requires { (from ≤ end) × (end ≤ length text.now) }
     ensures { (result ≡ from + run not_blank (stretch text.now from (end - from))) × (result ≤ end) }
 {
-    let i = find_between(text, 9, 32, from, end);
-    scan_blank(text, i, end)
+    let i = find_between(text, Limits { low: 9, high: 32 }, from, end);
+    i + scan_blank(&text[i..end])
 }
 
 // Bytes without the blanks at their end.

@@ -5,6 +5,14 @@ ghost use Rattle.text.specs.Eights.{eight_at, outside, BetweenOf};
 
 use crate::bytes::find_where;
 
+// The bytes from `low` to `high`, both below 128.
+#[derive(Clone, Copy)]
+pub struct Limits {
+    pub low: usize,
+    pub high: usize,
+    ghost ascii: { (low < 128) × (high < 128) },
+}
+
 // Eight bytes as one number.
 pub fn eight_bytes(text: &[u8], at: usize) -> usize
     requires { at + 8 ≤ length text.now }
@@ -22,61 +30,61 @@ pub fn eight_bytes(text: &[u8], at: usize) -> usize
     ])
 }
 
-// Whether a byte lies from `low` to `high`.
+// Whether a byte lies from `low` to `high`, be they below 128 or not.
 pub fn is_between(b: usize, low: usize, high: usize) -> bool
     ensures { not result ≡ outside low high b }
 {
     low <= b && b <= high
 }
 
-// The first place of a byte from `low` to `high`, from `from` on and before `end`, byte by byte; `end` if there is none.
-pub fn scan_between(text: &[u8], low: usize, high: usize, from: usize, end: usize) -> usize
-    requires { (from ≤ end) × (end ≤ length text.now) }
-    ensures { (result ≡ from + run (outside low high) (stretch text.now from (end - from))) × (result ≤ end) }
+// How many bytes come before the first from `low` to `high`, byte by byte; all of them if there is none.
+pub fn scan_between(bytes: &[u8], low: usize, high: usize) -> usize
+    ensures { (result ≡ run (outside low high) bytes.now) × (result ≤ length bytes.now) }
 {
-    find_where(text, from, end, |b| is_between(usize::from(b), low, high))
+    find_where(bytes, |b| is_between(usize::from(b), low, high))
 }
 
-// Eight bytes below 128: bit 7 of each says whether it lies from `low` to `high`, by two sums that carry nothing from byte to byte.
-pub fn between_bits(word: usize, low: usize, high: usize) -> usize
-    requires { (word ≤ 9187201950435737471) × (low < 128) × (high < 128) }
-    ensures { BetweenOf low high word result }
+// Eight bytes below 128: bit 7 of each says whether it lies between limits, by two sums that carry nothing from byte to byte.
+pub fn between_bits(word: usize, limits: Limits) -> usize
+    requires { word ≤ 9187201950435737471 }
+    ensures { BetweenOf limits.low limits.high word result }
 {
-    let above = word + (128 - low) * 0x0101_0101_0101_0101;
-    let below = (high + 128) * 0x0101_0101_0101_0101 - word;
+    let above = word + (128 - limits.low) * 0x0101_0101_0101_0101;
+    let below = (limits.high + 128) * 0x0101_0101_0101_0101 - word;
     above & below & 0x8080_8080_8080_8080
 }
 
-// How many of eight bytes come before the first from `low` to `high`: all at once, and only where all are below 128.
-pub fn before_between(text: &[u8], low: usize, high: usize, at: usize) -> Option<usize>
-    requires { (at + 8 ≤ length text.now) × (low < 128) × (high < 128) }
-    ensures { IfSome result (λ n. n ≡ run (outside low high) (stretch text.now at 8)) × (All (λ b. b < 128) (stretch text.now at 8) → IsSome result) }
+// How many of eight bytes come before the first between limits: all at once, and only where all are below 128.
+pub fn before_between(text: &[u8], limits: Limits, at: usize) -> Option<usize>
+    requires { at + 8 ≤ length text.now }
+    ensures { IfSome result (λ n. n ≡ run (outside limits.low limits.high) (stretch text.now at 8)) × (All (λ b. b < 128) (stretch text.now at 8) → IsSome result) }
 {
     let word = eight_bytes(text, at);
     if word & 0x8080_8080_8080_8080 != 0 {
         return None;
     }
-    let hits = between_bits(word, low, high);
+    let hits = between_bits(word, limits);
     if hits == 0 {
         return Some(8);
     }
     Some(hits.trailing_zeros() as usize / 8)
 }
 
-// The first place of a byte from `low` to `high`, eight bytes at a time while there are eight in the text, all below 128.
+// The first place of a byte between limits, eight bytes at a time while there are eight in the text, all below 128.
+// It takes places, and no stretch, since the eight may lie past `end`.
 // Nothing that walks the same eight bytes one by one may stand in the loop: the compiler would then load each by itself.
-pub fn find_between(text: &[u8], low: usize, high: usize, from: usize, end: usize) -> usize
-    requires { (from ≤ end) × (end ≤ length text.now) × (low < 128) × (high < 128) }
-    ensures { (result ≡ from + run (outside low high) (stretch text.now from (end - from))) × (result ≤ end) }
+pub fn find_between(text: &[u8], limits: Limits, from: usize, end: usize) -> usize
+    requires { (from ≤ end) × (end ≤ length text.now) }
+    ensures { (result ≡ from + run (outside limits.low limits.high) (stretch text.now from (end - from))) × (result ≤ end) }
 {
     let mut i = from;
     // Eight places are passed at a time, so there is no range to count over.
     while i < end {
         if text.len() - i < 8 {
-            return scan_between(text, low, high, i, end);
+            return i + scan_between(&text[i..end], limits.low, limits.high);
         }
-        let Some(n) = before_between(text, low, high, i) else {
-            return scan_between(text, low, high, i, end);
+        let Some(n) = before_between(text, limits, i) else {
+            return i + scan_between(&text[i..end], limits.low, limits.high);
         };
         if n < 8 {
             return (i + n).min(end);

@@ -11,6 +11,7 @@ use crate::lines::{KeptLines, Lines, kept_line};
 use crate::words::{Word, Words};
 
 // The words between two places, one after the other, as `for word in words_between(text, from, end)` takes them.
+// Between places, and of no stretch: the words are told by their places in the text, and `find_blank` may read past `end`.
 pub fn words_between(text: &[u8], from: usize, end: usize) -> Words
     requires { (from ≤ end) × (end ≤ length text.now) }
     ensures places { (result.text.now ≡ text.now) × (result.at ≡ from) × (result.end ≡ end) }
@@ -35,7 +36,7 @@ impl<'a> Iterator for Words<'a> {
     // Inlined, since it is called for each word: as a call of its own it made reading BLIF slower by a tenth.
     #[inline(always)]
     fn next(&mut self) -> Option<Word> {
-        let start = skip_blanks(self.text, self.at, self.end);
+        let start = self.at + skip_blanks(&self.text[self.at..self.end]);
         let end = find_blank(self.text, start, self.end);
         if start == end {
             return None;
@@ -94,6 +95,7 @@ impl<'a> Iterator for KeptLines<'a> {
 
     fn next(&mut self) -> Option<&'a [u8]> {
         let text = self.lines.text;
+        // Until something is kept of a line: no place is counted.
         while let Some(line) = self.lines.next() {
             let kept = kept_line(text, line);
             if kept.len != 0 {

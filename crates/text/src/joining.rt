@@ -1,9 +1,9 @@
 // The joined lines of a text.
-ghost use Rattle.std.specs.Prelude.{◌≡◌, cond, not, ◌&&◌, ◌||◌, [], ◌∷◌, ◌+◌, ◌-◌, ◌≤◌, ◌<◌, length, take, eqb};
+ghost use Rattle.std.specs.Prelude.{◌≡◌, not, ◌&&◌, ◌||◌, ◌+◌, ◌≤◌, ◌<◌, length, take, eqb};
 ghost use Rattle.laws.specs.Stretches.{stretch};
 ghost use Rattle.text.specs.Lines.{FirstComment};
 ghost use Rattle.text.specs.Joining.{continued, part, joined_text, Joins};
-ghost use Rattle.text.specs.Writing.{added, still, added_by, still_by, Puts};
+ghost use Rattle.text.specs.Writing.{one_or_none, added, still, added_by, still_by, Puts};
 
 use crate::blanks::trim_end;
 use crate::bytes::skip_to_far;
@@ -22,23 +22,25 @@ pub fn is_continued(line: &[u8]) -> bool
 pub fn part(line: &[u8]) -> &[u8]
     ensures { result.now ≡ part line.now }
 {
-    if is_continued(line) {
-        trim_end(&line[..line.len() - 1])
-    } else {
-        line
+    match line.strip_suffix(b"\\") {
+        Some(front) => trim_end(front),
+        None => line,
     }
 }
 
-// One byte, if it is wanted; where the writing goes on.
-pub fn put_if(joined: &mut [u8], out: usize, wanted: bool, b: u8) -> usize
-    requires { out + length (cond wanted (b ∷ []) []) ≤ length joined.old }
-    ensures { Puts joined.old joined.new out result (cond wanted (b ∷ []) []) }
+// One byte, if there is one; where the writing goes on.
+// The area is lent, as there is no heap, so where the writing stands goes beside it: a struct of both would promise at each call that its area is still the same one.
+#[tactic(auto, unfolding(crate::specs::Writing::one_or_none))]
+pub fn put_if(joined: &mut [u8], out: usize, b: Option<u8>) -> usize
+    requires { out + length (one_or_none b) ≤ length joined.old }
+    ensures { Puts joined.old joined.new out result (one_or_none b) }
 {
-    if wanted {
-        joined[out] = b;
-        out + 1
-    } else {
-        out
+    match b {
+        Some(b) => {
+            joined[out] = b;
+            out + 1
+        }
+        None => out,
     }
 }
 
@@ -73,9 +75,11 @@ pub fn put_line(joined: &mut [u8], put: Put, line: &[u8]) -> Put
 {
     let bytes = part(line);
     let more = is_continued(line);
-    let a = put_if(joined, put.out, put.gathered, b' ');
+    let space = put.gathered.then_some(b' ');
+    let a = put_if(joined, put.out, space);
     let b = put_bytes(joined, a, bytes);
-    let c = put_if(joined, b, !more, b'\n');
+    let line_end = (!more).then_some(b'\n');
+    let c = put_if(joined, b, line_end);
     let g = still_gathered(more, put.gathered, bytes.len());
     Put {
         out: c,
@@ -110,7 +114,8 @@ pub fn put_lines(text: &[u8], joined: &mut [u8]) -> usize
         comment = next_comment(text, line.start, comment);
         put = put_raw(joined, put, text, line, comment);
     }
-    put_if(joined, put.out, put.gathered, b'\n')
+    let line_end = put.gathered.then_some(b'\n');
+    put_if(joined, put.out, line_end)
 }
 
 // The joined text, zeros after it; how long it is.

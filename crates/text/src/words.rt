@@ -49,11 +49,13 @@ pub fn trim(text: &[u8], word: Word) -> Word
     requires { word.start + word.len ≤ length text.now }
     ensures { (result ≡ trimmed text.now word) × (word.start ≤ result.start) × (result.start + result.len ≤ word.start + word.len) }
 {
-    let end = word.start + word.len;
-    let start = skip_blanks(text, word.start, end);
-    let left = Word::between(start, end);
+    let blanks = skip_blanks(word.bytes(text));
+    let left = Word {
+        start: word.start + blanks,
+        len: word.len - blanks,
+    };
     Word {
-        start,
+        start: left.start,
         len: trim_end(left.bytes(text)).len(),
     }
 }

@@ -1,6 +1,9 @@
-use Rattle.std.proofs.Common.{◌∙◌}
-use Rattle.names.proofs.Words.{equal_parts}
+use Rattle.std.proofs.Common.{ap, ◌∙◌}
+use Rattle.laws.specs.Stretches.{stretch, same_bytes}
+use Rattle.names.proofs.Words.{equal_part}
 use Rattle.names.proofs.same_name.Goals as goal
 
 pub returns : goal.returns
-returns c = c.eq.ensures ∙ equal_parts c.args.text.now c.args.start c.args.word.start c.args.word.len
+returns c =
+    let t = c.args.text.now in
+    c.eq.ensures ∙ equal_part t c.args.start c.args.word.len c.bytes.result.now ∙ ap (same_bytes (stretch t c.args.start c.args.word.len)) c.bytes.ensures

@@ -6,6 +6,7 @@ use Rattle.std.proofs.lemmas.Result.{err_from_is_err_and}
 use Rattle.circuit.specs.Records.{nodes_of}
 use Rattle.names.specs.Chains.{entries}
 use Rattle.reading.specs.Reading.{places_in}
+use Rattle.bench_gates.proofs.Chaining.{gate_made}
 use Rattle.bench_gates.proofs.Lowering.{buffered, inverted, unknown, too_few, pair_made, triple_made, many_made}
 use Rattle.bench_gates.proofs.gates.lower_bench_gate.Goals as goal
 
@@ -30,7 +31,12 @@ pub returns-in-Chain-eq3-clause-by_index : goal.returns-in-Chain-eq3-clause-by_i
 returns-in-Chain-eq3-clause-by_index c = λ l. rw c.in-Chain-eq3.is-0 (c.chain_triple.ensures.by_index l ∙ triple_made c.args.text.now (entries c.args.names.now c.args.counts.names) c.args.plan c.requires.driven (places_in (length c.args.nodes.now) (length c.args.names.now) l) (nodes_of c.args.nodes.now c.args.counts.nodes) c.in-Chain-eq3.o c.in-Chain-eq3.is-1)
 
 pub returns-in-Chain-default-clause-by_index : goal.returns-in-Chain-default-clause-by_index
-returns-in-Chain-default-clause-by_index c = λ l. many_made c.args.text.now (entries c.args.names.now c.args.counts.names) c.args.plan c.requires.driven (places_in (length c.args.nodes.now) (length c.args.names.now) l) (nodes_of c.args.nodes.now c.args.counts.nodes) c.in-Chain-default.o c.in-Chain-default.is-0 _ (c.chain_many.ensures.by_index l)
+returns-in-Chain-default-clause-by_index c = λ l.
+    let t = c.args.text.now in
+    let es = entries c.args.names.now c.args.counts.names in
+    let p = places_in (length c.args.nodes.now) (length c.args.names.now) l in
+    let ns = nodes_of c.args.nodes.now c.args.counts.nodes in
+    many_made t es c.args.plan c.requires.driven p ns c.in-Chain-default.o c.in-Chain-default.is-0 _ (c.chain_many.ensures.by_index l ∙ gate_made t es c.args.plan c.in-Chain-default.o p c.requires.driven (search rules) ns)
 
 pub returns-in-Other-default-clause-by_index : goal.returns-in-Other-default-clause-by_index
 returns-in-Other-default-clause-by_index c = λ l. unknown c.args.text.now (entries c.args.names.now c.args.counts.names) c.args.plan c.requires.driven (places_in (length c.args.nodes.now) (length c.args.names.now) l) (nodes_of c.args.nodes.now c.args.counts.nodes) c.in-Other-default.is-0

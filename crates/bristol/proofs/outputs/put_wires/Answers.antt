@@ -1,16 +1,12 @@
 use Rattle.std.proofs.Common.{◌-◌, ℕ, [], drop, length, sym, ap, arith}
 use mathlib.Core.Path.{refl, ◌∙◌, subst}
 use lib.ListN.{length-drop}
-use Rattle.laws.specs.Areas.{capacity}
 use Rattle.laws.specs.Stretches.{stretch}
 use Rattle.laws.proofs.Stretches.{stretch_all}
 use Rattle.bristol.specs.Bristol.{outputs_from}
 use Rattle.bristol.specs.Promises.{OutputsStand}
-use Rattle.bristol.proofs.StoreLaws.{putting_start, put_undriven, put_full, put_on, put_end}
+use Rattle.bristol.proofs.StoreLaws.{put_undriven, put_full, put_on, put_end}
 use Rattle.bristol.proofs.outputs.put_wires.Goals as goal
-
-pub loop-count-init : goal.loop-count-init
-loop-count-init c = putting_start (drop c.args.from c.args.wires.now) c.args.from c.records_in-room.result c.args.outputs.now c.requires.1
 
 pub returns-then-slot-eq0 : goal.returns-then-slot-eq0
 unfolding stretch
@@ -25,10 +21,6 @@ returns-then-room-count c =
     let whole = stretch_all c.args.wires.now c.args.from (length c.args.wires.now) refl in
     ap (λ (z : ℕ). outputs_from z c.args.from (drop c.args.from c.args.wires.now) []) (sym c.records_in-room.ensures)
     ∙ put_full (drop c.args.from c.args.wires.now) c.args.from c.records_in-room.result c.loop-count.count c.loop-count.outputs c.loop-count.invariant (rw whole at c.loop-count-test.true) (rw whole at c.if-slot-eq0.false) c.if-room-count.true
-
-pub put_wire-requires : goal.put_wire-requires
-unfolding capacity
-put_wire-requires c = omega (arith, c.records_in-room.ensures, c.loop-count.auto.outputs, c.if-room-count.false)
 
 pub loop-count-preserved : goal.loop-count-preserved
 unfolding stretch

@@ -1,4 +1,4 @@
-use Rattle.std.proofs.Common.{◌≡◌, ℕ, ◌-◌, ◌≤◌, List, ◌++◌, length, take, drop, sym, ap, arith}
+use Rattle.std.proofs.Common.{◌≡◌, ℕ, ◌-◌, ◌≤◌, List, ◌++◌, length, take, drop, ap, arith}
 use mathlib.Core.Path.{◌∙◌}
 use lib.ListN.{replicate}
 use lib.Seq.{length-take-le}
@@ -9,16 +9,6 @@ use Rattle.text.specs.Iterators.{kept_left}
 use Rattle.bristol.specs.Bristol.{circuit}
 use Rattle.bristol.proofs.ReadLaws.{zeros_hold, leaves_more, circuit-body}
 use Rattle.bristol.proofs.reader.read_circuit.Goals as goal
-
-pub slice_bounds-read_clean-end : goal.slice_bounds-read_clean-end
-unfolding capacity
-slice_bounds-read_clean-end c = omega (arith, c.records_in.ensures, c.if-records_in-head.false)
-
-pub slice_bounds-read_clean-end-2 : goal.slice_bounds-read_clean-end-2
-unfolding capacity
-slice_bounds-read_clean-end-2 c =
-    let l : c.in_ok-head.head.wires ≤ length c.args.wires.now = omega (arith, c.records_in.ensures, c.if-records_in-head.false) in
-    sym (length-take-le c.in_ok-head.head.wires c.args.wires.now l)
 
 pub read_clean-requires : goal.read_clean-requires
 unfolding capacity

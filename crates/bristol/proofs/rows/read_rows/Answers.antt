@@ -2,17 +2,8 @@ use Rattle.std.proofs.Common.{length, Err, Ok, ap, arith}
 use Rattle.std.proofs.lemmas.Result.{err_from_is_err_and}
 use Rattle.laws.specs.Areas.{capacity}
 use Rattle.text.specs.Iterators.{kept_left}
-use Rattle.bristol.proofs.StoreLaws.{kept_few, step_of, going_start, going_end, going_stop, going_on}
+use Rattle.bristol.proofs.StoreLaws.{step_of, going_stop, going_on}
 use Rattle.bristol.proofs.rows.read_rows.Goals as goal
-
-pub loop-line-init : goal.loop-line-init
-loop-line-init c =
-    let same = c.into_iter-line-iterator.ensures.into_iter_gives in (
-      tt,
-      tt,
-      omega (arith, kept_few c.args.lines, ap (λ k. length (kept_left k)) same),
-      λ ns p h. going_start (kept_left c.args.lines) _ (ap kept_left same) (capacity 9 (length c.args.nodes.now)) ns c.args.wires.now c.args.nodes.now c.args.first.0 p h,
-    )
 
 pub returns-in_err-next : goal.returns-in_err-next
 returns-in_err-next c ns p h =
@@ -32,7 +23,3 @@ loop-line-preserved c = (
       c.in-Some.line.now _ c.in-Some.ensures.steps c.row_step.new.nodes c.row_step.new.wires c.in_ok-next.next.0
       (step_of c.row_step.new.nodes c.row_step.new.wires (length c.loop-line.nodes) (length c.args.nodes.now) c.loop-line.auto.nodes _ g.list c.loop-line.wires (Ok c.in_ok-next.next) (c.in_ok-next.ensures g.list g.count g.holds)),
 )
-
-pub returns : goal.returns
-returns c ns p h =
-    going_end (kept_left c.args.lines) _ (capacity 9 (length c.args.nodes.now)) ns c.args.wires.now c.loop-line.nodes c.loop-line.wires c.loop-line.next.0 c.loop-line.rows (c.loop-line.invariant.3 ns p h) c.in-None.ensures.steps.0

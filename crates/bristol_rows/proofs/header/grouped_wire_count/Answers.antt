@@ -1,12 +1,9 @@
 use Rattle.std.proofs.Common.{Err, ap, sym}
 use mathlib.Core.Path.{◌∙◌}
 use Rattle.std.proofs.lemmas.Result.{err_from_is_err_and}
-use Rattle.bristol_rows.proofs.HeaderLineLaws.{group_none, group_first, group_invalid, group_other, group_sum}
-use Rattle.bristol_rows.proofs.NumberLaws.{each_none, each_bad, each_value}
+use Rattle.bristol_rows.proofs.HeaderLineLaws.{group_first, group_invalid, group_other, group_sum}
+use Rattle.bristol_rows.proofs.NumberLaws.{each_bad, each_value}
 use Rattle.bristol_rows.proofs.header.grouped_wire_count.Goals as goal
-
-pub returns-in_default : goal.returns-in_default
-returns-in_default c = group_none c.args.limit _ (each_none _ (sym c.split_whitespace-words.ensures ∙ c.in_default.ensures.steps.0))
 
 pub returns-in_err-groups : goal.returns-in_err-groups
 returns-in_err-groups c =

@@ -1,12 +1,7 @@
 use Rattle.std.proofs.lemmas.Result.{err_from_is_err_and}
-use Rattle.bristol_rows.proofs.HeaderLineLaws.{gates_first, wires_first, counts_first, counts_invalid, counts_more, counts_two}
+use Rattle.bristol_rows.proofs.HeaderLineLaws.{wires_first, counts_first, counts_invalid, counts_more, counts_two}
 use Rattle.bristol_rows.proofs.NumberLaws.{first_value}
 use Rattle.bristol_rows.proofs.header.read_counts.Goals as goal
-
-pub returns-in_err-gates : goal.returns-in_err-gates
-returns-in_err-gates c =
-    let p = err_from_is_err_and c.from_residual.result c.from_residual.ensures.1 in
-    rw (p.1, p.2, ← c.split_whitespace-words.ensures) (gates_first _ _ c.in_err-gates.ensures.0)
 
 pub returns-in_err-wires : goal.returns-in_err-wires
 returns-in_err-wires c =

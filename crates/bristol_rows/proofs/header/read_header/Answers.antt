@@ -1,17 +1,8 @@
 use mathlib.Core.Path.{refl}
 use Rattle.std.proofs.lemmas.Result.{err_from_is_err_and}
 use Rattle.text.specs.Iterators.{kept_left}
-use Rattle.bristol_rows.proofs.HeaderLaws.{header_none, header_one, header_two, header_counts, header_is}
+use Rattle.bristol_rows.proofs.HeaderLaws.{header_counts, header_is}
 use Rattle.bristol_rows.proofs.header.read_header.Goals as goal
-
-pub returns-in_default : goal.returns-in_default
-returns-in_default c = header_two (kept_left c.args.lines.now) _ _ c.in_default.ensures.steps _ _ c.in_default.ensures'.steps c.in_default.ensures''.steps.0
-
-pub returns-in_default-2 : goal.returns-in_default-2
-returns-in_default-2 c = header_one (kept_left c.args.lines.now) _ _ c.in_default.ensures.steps c.in_default.ensures'.steps.0
-
-pub returns-in_default-3 : goal.returns-in_default-3
-returns-in_default-3 c = header_none (kept_left c.args.lines.now) c.in_default.ensures.steps.0
 
 pub returns-in_err-counts : goal.returns-in_err-counts
 returns-in_err-counts c =

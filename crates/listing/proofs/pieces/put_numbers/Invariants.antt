@@ -5,7 +5,8 @@ use Rattle.listing.proofs.pieces.put_numbers.Given as goal
 
 abbrev pub invariant-loop-n : goal.invariant-loop-n
 invariant-loop-n g l = record {
-  items : l.line.items ≡ l.initial.line.items ++ words decimal (take l.n-index l.numbers);
-  within : length l.line.items ≤ length l.initial.line.items + 21 * l.n-index;
+  written : g.L.Line.written l.line ≡ g.L.Line.written l.initial.line ++ words decimal (take l.n-index l.numbers);
+  room : g.L.Line.room l.initial.line ≤ g.L.Line.room l.line + 21 * l.n-index;
+  place : g.L.Line.place l.line ≡ g.L.Line.place l.initial.line;
   inside : l.n-index ≤ length l.numbers;
 }

@@ -5,8 +5,9 @@ use Rattle.listing.proofs.pieces.put_wires.Given as goal
 
 abbrev pub invariant-loop-k : goal.invariant-loop-k
 invariant-loop-k g l = record {
-  items : l.line.items ≡ l.initial.line.items ++ words wire_bytes (take l.k (wires_of l.n));
-  within : length l.line.items ≤ length l.initial.line.items + 22 * l.k;
+  written : g.L.Line.written l.line ≡ g.L.Line.written l.initial.line ++ words wire_bytes (take l.k (wires_of l.n));
+  room : g.L.Line.room l.initial.line ≤ g.L.Line.room l.line + 22 * l.k;
+  place : g.L.Line.place l.line ≡ g.L.Line.place l.initial.line;
   inside : l.k ≤ length (wires_of l.n);
   count : l.k-end ≡ length (wires_of l.n);
 }

@@ -1,11 +1,35 @@
-use Rattle.std.proofs.Common.{ap, ◌∙◌, arith}
+use Rattle.std.proofs.Common.{◌≡◌, ◌+◌, ◌*◌, ◌/◌, ◌<◌, length, ap, ◌∙◌, arith}
+use Rattle.laws.proofs.Stretches.{length-stretch}
 use Rattle.names.specs.Chains.{sum_in, mix_in}
+use Rattle.names.proofs.Words.{four_bytes, chunk_number}
 use Rattle.names.proofs.Hashes.{sum_step, mix_step}
 use Rattle.names.proofs.hashing.sum_words.Goals as goal
 
-pub loop-i-preserved : goal.loop-i-preserved
-loop-i-preserved c =
-    let word = c.args.word in (
-      sum_step c.args.text.now word.start word.len c.loop-i.i _ _ (λ i. omega (arith, c.type_inv.text i)) (omega arith) c.requires (c.with_word-sums.ensures.sum_value ∙ ap (sum_in c.loop-i.sums.sum) c.four_bytes.ensures) ∙ c.loop-i.invariant.0,
-      mix_step c.args.text.now word.start word.len c.loop-i.i _ _ (omega arith) c.requires (c.with_word-sums.ensures.mix_value ∙ ap (mix_in c.loop-i.sums.mix) c.four_bytes.ensures) ∙ c.loop-i.invariant.1,
+pub loop-four-preserved : goal.loop-four-preserved
+loop-four-preserved c =
+    let t = c.args.text.now in
+    let word = c.args.word in
+    let size : length c.bytes.result.now ≡ word.len = ap length c.bytes.ensures ∙ length-stretch t word.start word.len c.requires in
+    let below : c.loop-four.four-index < word.len / 4 = omega (arith, size, c.as_chunks.ensures.front_len, c.loop-four-test.true) in
+    let four : c.from_le_bytes.result ≡ four_bytes t (word.start + c.loop-four.four-index * 4) =
+    c.from_le_bytes.ensures ∙ chunk_number t word.start word.len c.loop-four.four-index c.bytes.result.now _ below c.requires c.bytes.ensures size c.as_chunks.ensures.front in (
+      omega (arith, c.loop-four-test.true),
+      sum_step t word.start word.len c.loop-four.four-index _ _ (λ i. omega (arith, c.type_inv.text i)) below c.requires (c.with_word-sums.ensures.sum_value ∙ ap (sum_in c.loop-four.sums.sum) four) ∙ c.loop-four.invariant.1,
+      mix_step t word.start word.len c.loop-four.four-index _ _ below c.requires (c.with_word-sums.ensures.mix_value ∙ ap (mix_in c.loop-four.sums.mix) four) ∙ c.loop-four.invariant.2,
     )
+
+pub returns-clause-len_value : goal.returns-clause-len_value
+returns-clause-len_value c =
+    let t = c.args.text.now in
+    let word = c.args.word in
+    let size : length c.bytes.result.now ≡ word.len = ap length c.bytes.ensures ∙ length-stretch t word.start word.len c.requires in
+    let all : word.len / 4 ≡ c.loop-four.four-index = omega (arith, size, c.as_chunks.ensures.front_len, c.loop-four.invariant.0, c.loop-four-test.false) in
+    rw all c.loop-four.invariant.1
+
+pub returns-clause-len_value_2 : goal.returns-clause-len_value_2
+returns-clause-len_value_2 c =
+    let t = c.args.text.now in
+    let word = c.args.word in
+    let size : length c.bytes.result.now ≡ word.len = ap length c.bytes.ensures ∙ length-stretch t word.start word.len c.requires in
+    let all : word.len / 4 ≡ c.loop-four.four-index = omega (arith, size, c.as_chunks.ensures.front_len, c.loop-four.invariant.0, c.loop-four-test.false) in
+    rw all c.loop-four.invariant.2

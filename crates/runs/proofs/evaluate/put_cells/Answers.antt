@@ -3,7 +3,7 @@ use mathlib.Core.Bool.{false≢true, true≢false}
 use Prim.Native.Nat.{ℕ}
 use native.Mathlib.Omega.{arith}
 use Rattle.runs.specs.Storing.{Worked}
-use Rattle.runs.proofs.Valuing.{worked_start, worked_next, worked_fails}
+use Rattle.runs.proofs.Valuing.{worked_start}
 use Rattle.runs.proofs.evaluate.put_cells.Goals as goal
 
 pub loop-k-init : goal.loop-k-init
@@ -17,11 +17,11 @@ put_cell-requires g c =
 pub returns-in_err-put_cell : goal.returns-in_err-put_cell
 returns-in_err-put_cell g c = rw c.from_residual.ensures (
   λ e. absurd (false≢true e),
-  λ e a b. c.in_err-put_cell.ensures.0 (worked_fails c.args.nodes.words.now c.args.nodes.count c.args.values.now c.requires c.loop-k.k c.loop-k.values c.loop-k.invariant c.loop-k-test.true a b),
+  λ e. (c.in_err-put_cell.ensures.worked c.args.nodes.count c.args.values.now c.loop-k-test.true c.requires c.loop-k.invariant).1 refl,
 )
 
 pub loop-k-preserved : goal.loop-k-preserved
-loop-k-preserved g c = worked_next c.args.nodes.words.now c.args.nodes.count c.args.values.now c.requires c.loop-k.k c.loop-k.values c.loop-k.invariant c.loop-k-test.true _ c.in_ok-put_cell.ensures.0 (c.in_ok-put_cell.ensures.1 refl)
+loop-k-preserved g c = (c.in_ok-put_cell.ensures.worked c.args.nodes.count c.args.values.now c.loop-k-test.true c.requires c.loop-k.invariant).0 refl
 
 pub returns : goal.returns
 returns g c =

@@ -10,8 +10,8 @@ use Rattle.runs.proofs.Marking.{marks_none}
 use Rattle.runs.proofs.fitness.fit_block.Goals as goal
 
 pub fit_pass-requires : goal.fit_pass-requires
-fit_pass-requires c = (c.requires, marks_none c.args.lo (length c.args.marks.now) _ (c.fill.ensures.after (search rules)))
+fit_pass-requires c = marks_none c.args.lo (length c.args.marks.now) _ (c.fill.ensures.after (search rules))
 
 pub returns : goal.returns
 returns c =
-    c.fit_pass.ensures ∙ ap (λ (size : ℕ). fit_in (within c.args.lo (size * 64)) (graph_of (nodes_of c.args.nodes.words.now c.args.nodes.count)) [] c.args.order.now) c.fill.auto.self
+    c.fit_pass.ensures ∙ ap (λ (size : ℕ). fit_in (within c.args.lo (size * 64)) (graph_of (nodes_of c.args.checked.nodes.words.now c.args.checked.nodes.count)) [] c.args.order.now) c.fill.auto.self

@@ -15,20 +15,20 @@ loop-lo-init c = (λ h. absurd (omega arith), refl)
 
 pub returns-in_err-fit_block : goal.returns-in_err-fit_block
 returns-in_err-fit_block c =
-    rw c.from_residual.ensures (block_unfit (graph_of (nodes_of c.args.nodes.words.now c.args.nodes.count)) (within c.loop-lo.lo (block_size c.loop-lo.marks)) c.args.order.now (sym c.in_err-fit_block.ensures))
+    rw c.from_residual.ensures (block_unfit (graph_of (nodes_of c.args.checked.nodes.words.now c.args.checked.nodes.count)) (within c.loop-lo.lo (block_size c.loop-lo.marks)) c.args.order.now (sym c.in_err-fit_block.ensures))
 
 pub loop-lo-preserved : goal.loop-lo-preserved
 loop-lo-preserved c =
-    let e = ap (λ (size : ℕ). fit_in (within c.loop-lo.lo (size * 64)) (graph_of (nodes_of c.args.nodes.words.now c.args.nodes.count)) [] c.args.order.now) (sym c.loop-lo.invariant.1) ∙ sym c.in_ok-fit_block.ensures in
-    (covered_next (graph_of (nodes_of c.args.nodes.words.now c.args.nodes.count)) c.args.order.now c.loop-lo.lo (block_size c.args.marks.now) c.loop-lo.invariant.0 e, c.fit_block.auto.marks ∙ c.loop-lo.invariant.1)
+    let e = ap (λ (size : ℕ). fit_in (within c.loop-lo.lo (size * 64)) (graph_of (nodes_of c.args.checked.nodes.words.now c.args.checked.nodes.count)) [] c.args.order.now) (sym c.loop-lo.invariant.1) ∙ sym c.in_ok-fit_block.ensures in
+    (covered_next (graph_of (nodes_of c.args.checked.nodes.words.now c.args.checked.nodes.count)) c.args.order.now c.loop-lo.lo (block_size c.args.marks.now) c.loop-lo.invariant.0 e, c.fit_block.auto.marks ∙ c.loop-lo.invariant.1)
 
 pub returns : goal.returns
 returns c =
-    covered_end (graph_of (nodes_of c.args.nodes.words.now c.args.nodes.count)) c.args.order.now c.loop-lo.lo c.args.nodes.count c.loop-lo.invariant.0 c.loop-lo-test.false (length_graph (nodes_of c.args.nodes.words.now c.args.nodes.count) ∙ length_nodes c.args.nodes.words.now c.args.nodes.count) c.requires.1
+    covered_end (graph_of (nodes_of c.args.checked.nodes.words.now c.args.checked.nodes.count)) c.args.order.now c.loop-lo.lo c.args.checked.nodes.count c.loop-lo.invariant.0 c.loop-lo-test.false (length_graph (nodes_of c.args.checked.nodes.words.now c.args.checked.nodes.count) ∙ length_nodes c.args.checked.nodes.words.now c.args.checked.nodes.count) c.requires.0
 
 -- the next block would begin past the nodes
 pub returns-in_ok-fit_block : goal.returns-in_ok-fit_block
 returns-in_ok-fit_block c =
-    let e = ap (λ (size : ℕ). fit_in (within c.loop-lo.lo (size * 64)) (graph_of (nodes_of c.args.nodes.words.now c.args.nodes.count)) [] c.args.order.now) (sym c.loop-lo.invariant.1) ∙ sym c.in_ok-fit_block.ensures in
-    covered_end (graph_of (nodes_of c.args.nodes.words.now c.args.nodes.count)) c.args.order.now (c.loop-lo.lo + block_size c.args.marks.now) c.args.nodes.count
-    (covered_next (graph_of (nodes_of c.args.nodes.words.now c.args.nodes.count)) c.args.order.now c.loop-lo.lo (block_size c.args.marks.now) c.loop-lo.invariant.0 e) (omega arith) (length_graph (nodes_of c.args.nodes.words.now c.args.nodes.count) ∙ length_nodes c.args.nodes.words.now c.args.nodes.count) c.requires.1
+    let e = ap (λ (size : ℕ). fit_in (within c.loop-lo.lo (size * 64)) (graph_of (nodes_of c.args.checked.nodes.words.now c.args.checked.nodes.count)) [] c.args.order.now) (sym c.loop-lo.invariant.1) ∙ sym c.in_ok-fit_block.ensures in
+    covered_end (graph_of (nodes_of c.args.checked.nodes.words.now c.args.checked.nodes.count)) c.args.order.now (c.loop-lo.lo + block_size c.args.marks.now) c.args.checked.nodes.count
+    (covered_next (graph_of (nodes_of c.args.checked.nodes.words.now c.args.checked.nodes.count)) c.args.order.now c.loop-lo.lo (block_size c.args.marks.now) c.loop-lo.invariant.0 e) (omega arith) (length_graph (nodes_of c.args.checked.nodes.words.now c.args.checked.nodes.count) ∙ length_nodes c.args.checked.nodes.words.now c.args.checked.nodes.count) c.requires.0

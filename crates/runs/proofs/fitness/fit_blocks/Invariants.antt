@@ -7,7 +7,7 @@ use Rattle.runs.proofs.Blocks.{Covered}
 use Rattle.runs.proofs.fitness.fit_blocks.Given as goal
 
 abbrev pub invariant-loop-lo : goal.invariant-loop-lo
-invariant-loop-lo l = Covered (graph_of (nodes_of l.nodes.words.now l.nodes.count)) l.order l.lo × (length l.marks ≡ length l.initial.marks)
+invariant-loop-lo l = Covered (graph_of (nodes_of l.checked.nodes.words.now l.checked.nodes.count)) l.order l.lo × (length l.marks ≡ length l.initial.marks)
 
 abbrev pub decreases-loop-lo : goal.decreases-loop-lo
-decreases-loop-lo l = l.nodes.count - l.lo
+decreases-loop-lo l = l.checked.nodes.count - l.lo

@@ -10,10 +10,15 @@ returns-in_err-assigned_fault c =
     let p = err_from_is_err_and c.from_residual.result c.from_residual.ensures.1 in
     rw (p.1, p.2) (run_unassigned c.args.nodes.now c.args.outputs.now c.args.order.now c.args.assignment.now c.args.store c.args.answers _ (sym c.in_err-assigned_fault.ensures))
 
+pub invariant_of-checked : goal.invariant_of-checked
+invariant_of-checked c =
+    let p = assigned_parts 2 c.args.nodes.now c.args.outputs.now c.args.assignment.now (sym c.in_ok-assigned_fault.ensures) in
+    rw (c.of.ensures.0, c.of.ensures.1) (record { accepted = accepted_nodes c.args.nodes.now c.args.outputs.now p.0 })
+
 pub fit_list-requires : goal.fit_list-requires
 fit_list-requires c =
     let p = assigned_parts 2 c.args.nodes.now c.args.outputs.now c.args.assignment.now (sym c.in_ok-assigned_fault.ensures) in
-    rw (c.of.ensures.0, c.of.ensures.1) (accepted_nodes c.args.nodes.now c.args.outputs.now p.0, (assigned 2 (nodes_in c.args.nodes.now) c.args.assignment.now p.1).0)
+    rw (c.of.ensures.0, c.of.ensures.1) (assigned 2 (nodes_in c.args.nodes.now) c.args.assignment.now p.1).0
 
 pub returns-then-not-fit_list : goal.returns-then-not-fit_list
 returns-then-not-fit_list c =

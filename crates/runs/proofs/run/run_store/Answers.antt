@@ -1,8 +1,8 @@
 use mathlib.Core.Path.{refl}
-use mathlib.Core.Bool.{true, false, false≢true}
+use mathlib.Core.Bool.{false, false≢true}
 use lib.ListN.{length}
 use Rattle.runs.specs.Steps.{Walked}
-use Rattle.runs.proofs.Passing.{told, denied}
+use Rattle.runs.proofs.Passing.{tells_then}
 use Rattle.runs.proofs.Running.{store_tells, walked_tells}
 use Rattle.runs.proofs.run.run_store.Goals.{then-counts_guessed+in_ok-run_stretches, else-counts_guessed+in_ok-run_stretches-2}
 use Rattle.runs.proofs.run.run_store.Goals as goal
@@ -26,20 +26,12 @@ returns-in_err-run_stretches-2 c =
     let i = c.in_ok-marked_inputs.ensures in
     rw c.from_residual-in_err-run_stretches-2.ensures (store_tells c.args.nodes.words.now c.args.nodes.count c.args.assignment.now c.args.order.now _ _ c.args.nodes.whole c.requires.2 (i.0 refl).0 false (λ b. (i.1 b).1) (c.in_err-run_stretches-2.ensures.stopped refl))
 
-pub returns-then-none_waits : goal.returns-then-none_waits
-returns-then-none_waits c =
+pub returns : goal.returns
+returns c =
     let i = c.in_ok-marked_inputs.ensures in
     let w : Walked c.args.nodes.words.now c.args.nodes.count c.args.order.now 0 (length c.args.order.now) c.marked_inputs.new.values c.if-counts_guessed.values = elim c.if-counts_guessed.branch [
       | then-counts_guessed+in_ok-run_stretches w ↦ rw w.values-is (w.in_ok-run_stretches.ensures.walked refl)
       | else-counts_guessed+in_ok-run_stretches-2 w ↦ rw w.values-is (w.in_ok-run_stretches-2.ensures.walked refl)
     ] in
-    walked_tells c.args.nodes.words.now c.args.nodes.count c.args.assignment.now c.args.order.now _ _ c.args.nodes.whole c.requires.2 (i.0 refl).0 true (λ b. (i.1 b).1) w (told c.none_waits.result c.none_waits.ensures c.if-none_waits.true)
-
-pub returns-else-none_waits : goal.returns-else-none_waits
-returns-else-none_waits c =
-    let i = c.in_ok-marked_inputs.ensures in
-    let w : Walked c.args.nodes.words.now c.args.nodes.count c.args.order.now 0 (length c.args.order.now) c.marked_inputs.new.values c.if-counts_guessed.values = elim c.if-counts_guessed.branch [
-      | then-counts_guessed+in_ok-run_stretches w ↦ rw w.values-is (w.in_ok-run_stretches.ensures.walked refl)
-      | else-counts_guessed+in_ok-run_stretches-2 w ↦ rw w.values-is (w.in_ok-run_stretches-2.ensures.walked refl)
-    ] in
-    walked_tells c.args.nodes.words.now c.args.nodes.count c.args.assignment.now c.args.order.now _ _ c.args.nodes.whole c.requires.2 (i.0 refl).0 false (λ b. (i.1 b).1) w (denied c.none_waits.result c.none_waits.ensures c.if-none_waits.false)
+    tells_then _ _ _ c.then_some.ensures
+    (walked_tells c.args.nodes.words.now c.args.nodes.count c.args.assignment.now c.args.order.now _ _ c.args.nodes.whole c.requires.2 (i.0 refl).0 c.none_waits.result (λ b. (i.1 b).1) w c.none_waits.ensures)

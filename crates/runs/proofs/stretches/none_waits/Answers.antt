@@ -1,34 +1,22 @@
-use Rattle.std.proofs.Common.{◌≡◌, ℕ, ◌<◌, ◌≤◌, arith, sym}
+use Rattle.std.proofs.Common.{◌≡◌, ℕ, List, ◌<◌, ◌≤◌, arith, rules, sym}
+use Rattle.std.specs.List.{fold}
 use Rattle.std.specs.Ordering.{ord_max, nat_cmp}
-use Rattle.std.proofs.lemmas.Grind.{common_steps}
 use Rattle.std.proofs.lemmas.List.{get_or-take}
+use Rattle.std.proofs.lemmas.Iterator.{YieldsList-from_slice}
+use Rattle.std.proofs.lemmas.Iterator.Consumers.{fold_from_yields_List}
 use mathlib.Core.Path.{subst}
-use lib.ListN.{get_or, take, length-take}
-use Rattle.runs.proofs.Marks.{marks_none, marks_top, top_next}
+use lib.ListN.{length, get_or, take}
+use lib.Seq.{length-take-le}
+use Rattle.runs.proofs.Marks.{marks_none, marks_top, fold_above, fold_small}
 use Rattle.runs.proofs.stretches.none_waits.Goals as goal
-
--- the greater of two values
-greater : (a b r : ℕ) → r ≡ ord_max nat_cmp a b → (a ≤ r) × (b ≤ r) × (a < 3 → b < 3 → r < 3)
-greater a b r e = (grind (arith, common_steps), grind (arith, common_steps), λ p q. grind (arith, common_steps))
-
-pub loop-value-init : goal.loop-value-init
-loop-value-init c = (λ j h. absurd (omega arith), λ e. omega arith)
-
-pub loop-value-preserved : goal.loop-value-preserved
-loop-value-preserved c =
-    let n = c.args.count in
-    let s = c.args.values.now in
-    let k = c.loop-value.value-index in
-    let g = greater c.loop-value.top (get_or (take n s) k 0) c.max-top.result c.max-top.ensures in
-    let h : k < n = omega (arith, c.loop-value-test.true, length-take n s) in (
-      top_next (take n s) k c.loop-value.top c.max-top.result c.loop-value.invariant.0 g.0 g.1,
-      λ e. g.2 (c.loop-value.invariant.1 e) (subst (λ (v : ℕ). v < 3) (sym (get_or-take n s k 0 h)) (marks_none n s e k h)),
-    )
 
 pub returns : goal.returns
 returns c =
     let n = c.args.count in
     let s = c.args.values.now in
-    marks_top n c.loop-value.top s
-    (λ j h. subst (λ (v : ℕ). v ≤ c.loop-value.top) (get_or-take n s j 0 h) (c.loop-value.invariant.0 j (omega (arith, h, c.loop-value-test.false, length-take n s, c.requires))))
-    c.loop-value.invariant.1
+    let part : List ℕ = take n s in
+    let size : length part ≡ n = length-take-le n s c.requires in
+    let e : c.fold-top.result ≡ fold (ord_max nat_cmp) 0 part = fold_from_yields_List _ (ord_max nat_cmp) 0 _ c.fold-top.ensures.ran (YieldsList-from_slice part cc) (λ a x b q h. search rules) in
+    marks_top n c.fold-top.result s
+    (λ k h. subst (λ (v : ℕ). v ≤ c.fold-top.result) (get_or-take n s k 0 h) (subst (λ (r : ℕ). get_or part k 0 ≤ r) (sym e) (fold_above 0 part k (omega (arith, h, size)))))
+    (λ z. subst (λ (r : ℕ). r < 3) (sym e) (fold_small 0 part (omega arith) (λ k h. let l : k < n = omega (arith, h, size) in subst (λ (v : ℕ). v < 3) (sym (get_or-take n s k 0 l)) (marks_none n s z k l))))

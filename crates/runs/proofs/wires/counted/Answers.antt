@@ -12,7 +12,7 @@ use Rattle.runs.proofs.wires.counted.Goals as goal
 pub returns-then-more-table : goal.returns-then-more-table
 returns-then-more-table g c =
     let words = c.args.nodes.words.now in
-    c.missing.ensures c.args.k (node_at words c.args.k) c.args.values.now (over_broken words c.args.k c.args.more c.requires.3 c.requires.4 c.requires.5 c.if-more-table.true)
+    c.missing.ensures c.args.k (node_at words c.args.k) c.args.values.now (λ cell. over_broken words c.args.k c.args.more c.requires.3 c.requires.4 c.requires.5 c.if-more-table.true)
 
 pub node_value-a-requires : goal.node_value-a-requires
 node_value-a-requires g c = let t = c.earlier_node.ensures c.if-earlier_node.true in (t.0, omega (arith, t.1, c.requires.1))
@@ -35,7 +35,7 @@ returns-then-k-first g c =
     let words = c.args.nodes.words.now in
     let k = c.args.k in
     let n = node_at words k in
-    c.missing-then-k-first.ensures k n c.args.values.now (elim c.then-k-first.branch [
+    c.missing-then-k-first.ensures k n c.args.values.now (λ cell. elim c.then-k-first.branch [
       | then-k-first-via-then-k-first w ↦ first_broken k n c.requires.3 (word-ahead k (get_or words (k * 9 + 7) 0) w.if-k-first.true)
       | then-k-first-via-else-k-first+then-k-last w ↦ last_broken words k c.args.more c.requires.3 c.requires.4 c.requires.5 c.if-more-table.false w.if-k-first.false w.if-k-last.true
     ])

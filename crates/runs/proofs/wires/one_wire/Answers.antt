@@ -14,7 +14,7 @@ returns-then-table-ge4 g c =
     let words = c.args.nodes.words.now in
     let k = c.args.k in
     let n = node_at words k in
-    c.missing.ensures k n c.args.values.now (elim c.then-table-ge4.branch [
+    c.missing.ensures k n c.args.values.now (λ cell. elim c.then-table-ge4.branch [
       | then-table-ge4-via-then-table-ge4 w ↦ one_broken k n c.requires.3 c.requires.4 w.if-table-ge4.true
       | then-table-ge4-via-else-table-ge4+then-k-nodes w ↦ first_broken k n c.requires.3 (word-ahead k (get_or words (k * 9 + 7) 0) w.if-k-nodes.true)
     ])

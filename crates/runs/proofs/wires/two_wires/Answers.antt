@@ -12,7 +12,7 @@ use Rattle.runs.proofs.wires.two_wires.Goals as goal
 pub returns-then-table-ge16 : goal.returns-then-table-ge16
 returns-then-table-ge16 g c =
     let n = node_at c.args.nodes.words.now c.args.k in
-    c.missing.ensures c.args.k n c.args.values.now (two_broken c.args.k n c.requires.3 c.requires.4 c.if-table-ge16.true)
+    c.missing.ensures c.args.k n c.args.values.now (λ cell. two_broken c.args.k n c.requires.3 c.requires.4 c.if-table-ge16.true)
 
 pub two_nodes-requires : goal.two_nodes-requires
 two_nodes-requires g c = (c.requires.0, c.requires.1, c.if-table-ge16.false, c.both_earlier.ensures c.if-both_earlier.true)
@@ -27,7 +27,7 @@ returns-then-k-nodes g c =
     let n = node_at words k in
     let first = get_or words (k * 9 + 7) 0 in
     let second = get_or words (k * 9 + 8) 0 in
-    c.missing-then-k-nodes.ensures k n c.args.values.now (elim c.then-k-nodes.branch [
+    c.missing-then-k-nodes.ensures k n c.args.values.now (λ cell. elim c.then-k-nodes.branch [
       | then-k-nodes-via-then-k-nodes w ↦ first_broken k n c.requires.3 (word-ahead k first w.if-k-nodes.true)
       | then-k-nodes-via-else-k-nodes+then-k-nodes-2 w ↦ second_broken k n c.requires.3 c.requires.4 c.if-table-ge16.false (word_behind k first w.if-k-nodes.false) (word-ahead k second w.if-k-nodes-2.true)
     ])

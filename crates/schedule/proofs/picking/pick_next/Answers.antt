@@ -6,13 +6,13 @@ use Rattle.schedule.proofs.Scan.{picked_some, picked_first, picked_is}
 use Rattle.schedule.proofs.picking.pick_next.Goals as goal
 
 pub next-requires : goal.next-requires
-next-requires c = (set_room _ c.args.area.now c.requires.0, c.requires.5.low, set_levels _ _ c.requires.0 c.requires.2)
+next-requires c = (set_room _ c.args.area.now c.requires.0, c.requires.4.low, set_levels _ _ c.requires.0 c.requires.2)
 
 pub unwrap-first-requires : goal.unwrap-first-requires
-unwrap-first-requires c = picked_some _ _ c.args.keys.now _ c.requires.5 c.requires.4 _ c.next.ensures
+unwrap-first-requires c = picked_some _ _ c.args.keys.now _ c.requires.4 c.requires.3 _ c.next.ensures
 
 pub pick_ready-node-requires : goal.pick_ready-node-requires
-pick_ready-node-requires c = let f = MatchOption-at_some _ _ _ c.unwrap-first.ensures c.next.ensures in (set_room _ c.args.area.now c.requires.0, c.requires.1, set_levels _ _ c.requires.0 c.requires.2, omega (arith, c.min-most.ensures, c.requires.3, c.requires.4), f.0, picked_first _ _ c.args.keys.now _ c.requires.5 _ f.1)
+pick_ready-node-requires c = let f = MatchOption-at_some _ _ _ c.unwrap-first.ensures c.next.ensures in (set_room _ c.args.area.now c.requires.0, c.requires.1, set_levels _ _ c.requires.0 c.requires.2, f.0, picked_first _ _ c.args.keys.now _ c.requires.4 _ f.1)
 
 pub returns : goal.returns
-returns c = let f = MatchOption-at_some _ _ _ c.unwrap-first.ensures c.next.ensures in picked_is _ _ c.args.keys.now _ c.requires.5 _ f.1 c.requires.4 _ _ c.min-most.ensures _ c.pick_ready-node.ensures _ refl refl
+returns c = let f = MatchOption-at_some _ _ _ c.unwrap-first.ensures c.next.ensures in picked_is _ _ c.args.keys.now _ c.requires.4 _ f.1 c.requires.3 _ _ (rw c.get.ensures.value at c.min-most.ensures) (omega (arith, c.min-most.ensures, c.get.ensures.nonzero, c.requires.3)) _ c.pick_ready-node.ensures _ refl refl

@@ -1,22 +1,22 @@
+use mathlib.Core.Path.{refl, ◌∙◌}
 use native.Mathlib.Omega.{arith}
-use mathlib.Core.Path.{refl}
-use Rattle.schedule.proofs.Scan.{scanning_start, scanning_take, scanning_full, scanning_none}
+use Rattle.schedule.proofs.Scan.{scan_start, scan_take, scan_over}
 use Rattle.schedule.proofs.picking.pick_ready.Goals as goal
 
-pub loop-found-init : goal.loop-found-init
-loop-found-init c = rw c.of-best.ensures.0 (scanning_start _ _ _ _ _ c.requires.5 c.requires.4 c.requires.3, c.of-best.ensures.1, λ z. absurd (z refl))
+pub loop-node-init : goal.loop-node-init
+loop-node-init c =
+    rw (c.into_iter-node-iterator.ensures.into_iter_gives, c.take-node-items.ensures.source, c.take-node-items.ensures.count, c.of-best.ensures.0) (
+      record { words = λ w. omega (arith, c.type_inv.set w); room = c.requires.0; within = omega (arith, c.requires.3); levels = c.requires.2; rest_is = λ z. absurd (z refl) },
+      tt,
+      refl,
+      c.of-best.ensures.1,
+      scan_start _ _ _ _ _ c.requires.4 c.requires.3,
+    )
 
-pub see-requires : goal.see-requires
-see-requires c = (c.requires.0, c.loop-found.invariant.0.index, c.requires.2, c.loop-found.invariant.2)
+pub loop-node-preserved : goal.loop-node-preserved
+loop-node-preserved c =
+    let s = c.in-Some.ensures.steps in
+    (c.in-Some.ensures.goes.keeps, tt, s.0.same_nodes ∙ c.loop-node.invariant.2, c.better-best.ensures.1, rw c.better-best.ensures.0 (scan_take _ _ _ _ _ _ _ c.loop-node.invariant.4 _ _ _ s.0.first s.1))
 
-pub better-best-requires : goal.better-best-requires
-better-best-requires c = (omega (arith, c.requires.1, c.in-Some.ensures.0), c.loop-found.invariant.1)
-
-pub loop-found-preserved : goal.loop-found-preserved
-loop-found-preserved c = (rw c.better-best.ensures.0 (scanning_take _ _ _ _ _ _ _ c.loop-found.invariant.0 _ c.in-Some.ensures.1 c.in-Some.ensures.0 c.loop-found-test.true), c.better-best.ensures.1, c.in-Some.ensures.2)
-
-pub returns-after-loop-found : goal.returns-after-loop-found
-returns-after-loop-found c = scanning_full _ _ _ _ _ _ _ c.loop-found.invariant.0 (omega arith)
-
-pub returns-in_default : goal.returns-in_default
-returns-in_default c = scanning_none _ _ _ _ _ _ _ c.loop-found.invariant.0 _ c.in_default.ensures (omega arith)
+pub returns : goal.returns
+returns c = scan_over _ _ _ _ _ _ _ c.loop-node.invariant.4 (λ h. (c.in-None.ensures.steps h).first.0)

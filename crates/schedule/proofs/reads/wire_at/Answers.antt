@@ -1,9 +1,9 @@
 use Rattle.schedule.proofs.Edges.{wire_input, wire_past, wire_there}
 use Rattle.schedule.proofs.reads.wire_at.Goals as goal
-use Rattle.schedule.proofs.reads.wire_at.Goals.{then-nodes-at-ne2-via-then-nodes-at-ne2, then-nodes-at-ne2-via-else-nodes-at-ne2+then-nodes-at}
+use Rattle.schedule.proofs.reads.wire_at.Goals.{then-not-is_cell-via-then-not-is_cell, then-not-is_cell-via-else-not-is_cell+then-nodes-at}
 
-pub returns-then-nodes-at-ne2 : goal.returns-then-nodes-at-ne2
-returns-then-nodes-at-ne2 c = elim c.then-nodes-at-ne2.branch [ then-nodes-at-ne2-via-then-nodes-at-ne2 w ↦ wire_input _ _ _ w.if-nodes-at-ne2.true | then-nodes-at-ne2-via-else-nodes-at-ne2+then-nodes-at w ↦ wire_past _ _ _ w.if-nodes-at-ne2.false w.if-nodes-at.true ]
+pub returns-then-not-is_cell : goal.returns-then-not-is_cell
+returns-then-not-is_cell c = elim c.then-not-is_cell.branch [ then-not-is_cell-via-then-not-is_cell w ↦ wire_input _ _ _ _ c.is_cell.ensures w.if-not-is_cell.true | then-not-is_cell-via-else-not-is_cell+then-nodes-at w ↦ wire_past _ _ _ _ c.is_cell.ensures w.if-not-is_cell.false w.if-nodes-at.true ]
 
 pub returns : goal.returns
-returns c = wire_there _ _ _ c.if-nodes-at-ne2.false c.if-nodes-at.false
+returns c = wire_there _ _ _ _ c.is_cell.ensures c.if-not-is_cell.false c.if-nodes-at.false

@@ -2,14 +2,13 @@ use Rattle.std.proofs.Common.{rules, arith}
 use mathlib.Core.Path.{◌∙◌}
 use Rattle.std.proofs.lemmas.Iterator.{YieldsList-from_range}
 use Rattle.std.proofs.lemmas.Iterator.Consumers.{YieldsList-from_filter, count_from_yields_List}
-use Rattle.schedule.specs.Areas.{cell_at}
+use Rattle.circuit.specs.Records.{node_at, is_cell_node}
 use Rattle.schedule.proofs.Whole.{counted}
 use Rattle.schedule.proofs.taking.count_cells.Goals as goal
 
 pub returns : goal.returns
-unfolding cell_at
 returns c =
     let nodes = c.args.nodes.words.now in
     let n = c.args.nodes.count in
-    count_from_yields_List _ _ c.count.ensures.ran (YieldsList-from_filter _ (cell_at nodes) (YieldsList-from_range 0 n n c.filter.ensures.source (omega arith)) c.filter.ensures.closure (λ x b q k. search rules))
+    count_from_yields_List _ _ c.count.ensures.ran (YieldsList-from_filter _ (λ k. is_cell_node (node_at nodes k)) (YieldsList-from_range 0 n n c.filter.ensures.source (omega arith)) c.filter.ensures.closure (λ x b q k. search rules))
     ∙ counted nodes n

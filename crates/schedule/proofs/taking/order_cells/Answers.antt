@@ -13,7 +13,7 @@ pub open_all-cells-requires : goal.open_all-cells-requires
 open_all-cells-requires c = (search rules, search rules, c.link_all.ensures.0, cleared_empty _ _ (length c.args.area.now) _ (search rules) c.link_all.ensures.1)
 
 pub take_all-requires : goal.take_all-requires
-take_all-requires c = (started_is _ _ _ _ c.open_all-cells.ensures.0, search rules, search rules, c.requires.4, c.open_all-cells.ensures.1)
+take_all-requires c = (started_is _ _ _ _ c.open_all-cells.ensures.0, search rules, search rules, c.open_all-cells.ensures.1)
 
 pub returns : goal.returns
 returns c = filled_is _ _ _ _ _ _ _ _ _ c.open_all-cells.ensures.0 c.take_all.ensures.0 c.take_all.ensures.1

@@ -5,13 +5,10 @@ use Rattle.schedule.proofs.Steps.{took_start, took_pickable, took_room, took_rel
 use Rattle.schedule.proofs.taking.take_scanning.Goals as goal
 
 pub loop-cells-init : goal.loop-cells-init
-loop-cells-init c = (took_start _ _ _ _ _ _, omega arith, refl, refl, refl, c.requires.4)
-
-pub scanned-cost-requires : goal.scanned-cost-requires
-scanned-cost-requires c = tt
+loop-cells-init c = (took_start _ _ _ _ _ _, omega arith, refl, refl, refl, c.requires.3)
 
 pub pick_next-picked-requires : goal.pick_next-picked-requires
-pick_next-picked-requires c = let t = took_pickable _ _ _ _ _ _ _ _ c.loop-cells.invariant.0 c.requires.0 in (t.room, c.requires.1, t.levels, c.requires.3, omega (arith, c.loop-cells-test.true), c.loop-cells.invariant.5)
+pick_next-picked-requires c = let t = took_pickable _ _ _ _ _ _ _ _ c.loop-cells.invariant.0 c.requires.0 in (t.room, c.requires.1, t.levels, omega (arith, c.loop-cells-test.true), c.loop-cells.invariant.5)
 
 pub offset_bounds-order-taken : goal.offset_bounds-order-taken
 offset_bounds-order-taken c = omega (arith, took_room _ _ _ _ _ _ _ _ c.loop-cells.invariant.0 c.loop-cells.invariant.1 _ c.pick_next-picked.ensures.node_is c.requires.0)
@@ -30,12 +27,6 @@ loop-cells-smaller c = omega (arith, took_room _ _ _ _ _ _ _ _ c.loop-cells.inva
 
 pub loop-cells-preserved : goal.loop-cells-preserved
 loop-cells-preserved c = let r = took_room _ _ _ _ _ _ _ _ c.loop-cells.invariant.0 c.loop-cells.invariant.1 _ c.pick_next-picked.ensures.node_is c.requires.0 in (took_more _ _ _ _ _ _ _ _ c.loop-cells.invariant.0 c.loop-cells.invariant.1 _ c.pick_next-picked.ensures.node_is (omega (arith, r, c.requires.2, c.loop-cells.invariant.2)) _ c.release-cells.ensures.0, simp length-set (omega (arith, r, c.requires.2, c.loop-cells.invariant.2)), simp length-set c.loop-cells.invariant.2, c.release-cells.auto.area ∙ c.loop-cells.invariant.3, drop_more c.loop-cells.order c.args.order.now c.loop-cells.taken _ c.loop-cells.invariant.4, c.release-cells.ensures.1)
-
-pub shape_of-area-after-loop-cells : goal.shape_of-area-after-loop-cells
-shape_of-area-after-loop-cells c = c.loop-cells.invariant.3
-
-pub shape_of-order-after-loop-cells : goal.shape_of-order-after-loop-cells
-shape_of-order-after-loop-cells c = c.loop-cells.invariant.2
 
 pub returns-after-loop-cells : goal.returns-after-loop-cells
 returns-after-loop-cells c = (c.loop-cells.invariant.0, c.loop-cells.invariant.1, c.loop-cells.invariant.4, c.loop-cells.invariant.5, λ z. absurd (z c.loop-cells-test.false))

@@ -13,8 +13,5 @@ open-cells-requires c = record { room = omega (arith, c.loop-node.invariant.0.si
 pub loop-node-preserved : goal.loop-node-preserved
 loop-node-preserved c = (opening_more _ _ _ _ _ _ c.loop-node.invariant.0 c.loop-node-test.true c.open-cells.ensures.0, c.open-cells.ensures.1)
 
-pub shape_of-area : goal.shape_of-area
-shape_of-area c = c.loop-node.invariant.0.size
-
 pub returns : goal.returns
 returns c = (opening_end _ _ c.args.netlist.wired _ _ _ _ c.loop-node.invariant.0 (omega arith) c.requires.0 c.requires.1 c.requires.2, c.loop-node.invariant.1)

@@ -19,9 +19,6 @@ bounds-area-node c = omega (arith, releasable_room _ _ _ _ c.requires.0)
 pub loop-edge-init : goal.loop-edge-init
 loop-edge-init c = (descend_none _ _ _ _ _, refl, c.requires.1)
 
-pub overflow_sub-edge : goal.overflow_sub-edge
-overflow_sub-edge c = omega (arith, c.loop-edge-test.true)
-
 pub lower-left-requires : goal.lower-left-requires
 lower-left-requires c = let s = safe _ _ _ _ _ _ c.loop-edge.invariant.0 c.requires.0 c.loop-edge-test.true in (record { room = s.room; below = s.reader; levels = s.levels; fresh = s.fresh; counted = c.loop-edge.invariant.2 }, s.some)
 
@@ -42,9 +39,6 @@ mark_ready-requires c = let t = takable _ _ _ _ _ _ c.loop-edge.invariant.0 c.re
 
 pub overflow_sub-result : goal.overflow_sub-result
 overflow_sub-result c = let t = takable _ _ _ _ _ _ c.loop-edge.invariant.0 c.requires.0 in counted-some _ _ _ c.loop-edge.invariant.2 _ t.below t.flag
-
-pub shape_of-area : goal.shape_of-area
-shape_of-area c = c.mark_ready.ensures.0.size ∙ c.loop-edge.invariant.1
 
 pub returns : goal.returns
 returns c = let t = takable _ _ _ _ _ _ c.loop-edge.invariant.0 c.requires.0 in (descended _ _ _ _ _ _ c.loop-edge.invariant.0 c.loop-edge-test.false _ c.mark_ready.ensures.0, counted_taken _ _ _ t.below _ c.loop-edge.invariant.2 t.flag _ c.mark_ready.ensures.0 _ refl refl)

@@ -1,12 +1,10 @@
-use mathlib.Core.Path.{sym, ◌∙◌}
-use Rattle.text.proofs.WriteLaws.{part_continued, part_whole, continued_some}
+use mathlib.Core.Path.{ap, ◌∙◌}
+use Rattle.text.specs.Blanks.{trim_end}
+use Rattle.text.proofs.WriteLaws.{part_continued, part_whole}
 use Rattle.text.proofs.joining.part.Goals as goal
 
-pub slice_bounds-trim_end-count : goal.slice_bounds-trim_end-count
-slice_bounds-trim_end-count c = continued_some c.args.line.now (sym c.is_continued.ensures ∙ c.if-is_continued.true)
+pub returns-in-Some : goal.returns-in-Some
+returns-in-Some c = c.trim_end.ensures ∙ ap trim_end c.in-Some.ensures.cases.1 ∙ part_continued c.args.line.now c.in-Some.ensures.cases.0
 
-pub returns-then-is_continued : goal.returns-then-is_continued
-returns-then-is_continued c = c.trim_end.ensures ∙ part_continued c.args.line.now (sym c.is_continued.ensures ∙ c.if-is_continued.true)
-
-pub returns-else-is_continued : goal.returns-else-is_continued
-returns-else-is_continued c = part_whole c.args.line.now (sym c.is_continued.ensures ∙ c.if-is_continued.false)
+pub returns-in-None : goal.returns-in-None
+returns-in-None c = part_whole c.args.line.now c.in-None.ensures.cases

@@ -4,7 +4,7 @@ use mathlib.Core.Bool.{false}
 use native.Mathlib.Omega.{arith}
 use lib.ListN.{length}
 use Rattle.text.specs.Iterators.{lines_left}
-use Rattle.text.proofs.WriteLaws.{left, left_start, turn_room, turn_after, end_room, end_after}
+use Rattle.text.proofs.WriteLaws.{one_if, left, left_start, turn_room, turn_after, end_room, end_after}
 use Rattle.text.proofs.joining.put_lines.Goals as goal
 
 pub loop-line-init : goal.loop-line-init
@@ -44,11 +44,13 @@ loop-line-preserved c =
 pub put_if-requires : goal.put_if-requires
 put_if-requires c =
     let so_far = rw c.in-None.ensures.steps.first.0 at c.loop-line.invariant.5 in
-    omega (arith, c.requires, c.loop-line.invariant.3, end_room c.args.text.now c.loop-line.joined c.loop-line.put.out c.loop-line.put.gathered c.loop-line.invariant.4 so_far)
+    rw (one_if c.loop-line.put.gathered 10 c.then_some-line_end.result c.then_some-line_end.ensures)
+    (omega (arith, c.requires, c.loop-line.invariant.3, end_room c.args.text.now c.loop-line.joined c.loop-line.put.out c.loop-line.put.gathered c.loop-line.invariant.4 so_far))
 
 pub returns : goal.returns
 returns c =
-    let so_far = rw c.in-None.ensures.steps.first.0 at c.loop-line.invariant.5 in (
-      end_after c.args.text.now c.loop-line.joined c.loop-line.put.out c.loop-line.put.gathered c.loop-line.invariant.4 so_far c.put_if.new.joined c.put_if.result c.put_if.ensures,
-      omega (arith, c.put_if.ensures.count, end_room c.args.text.now c.loop-line.joined c.loop-line.put.out c.loop-line.put.gathered c.loop-line.invariant.4 so_far),
+    let so_far = rw c.in-None.ensures.steps.first.0 at c.loop-line.invariant.5 in
+    let ended = rw (one_if c.loop-line.put.gathered 10 c.then_some-line_end.result c.then_some-line_end.ensures) at c.put_if.ensures in (
+      end_after c.args.text.now c.loop-line.joined c.loop-line.put.out c.loop-line.put.gathered c.loop-line.invariant.4 so_far c.put_if.new.joined c.put_if.result ended,
+      omega (arith, ended.count, end_room c.args.text.now c.loop-line.joined c.loop-line.put.out c.loop-line.put.gathered c.loop-line.invariant.4 so_far),
     )

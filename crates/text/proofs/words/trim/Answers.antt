@@ -1,5 +1,5 @@
 use Prim.Native.Nat.{◌+◌, ◌-◌, ◌≤◌}
-use mathlib.Core.Path.{ap, ◌∙◌}
+use mathlib.Core.Path.{◌≡◌, ap, ◌∙◌}
 use native.Mathlib.Omega.{arith}
 use lib.ListN.{length}
 use Rattle.laws.specs.Stretches.{stretch, run}
@@ -8,13 +8,21 @@ use Rattle.text.specs.Blanks.{is_blank, trim_end}
 use Rattle.text.proofs.BlankLaws.{trim_made, trim_end-length}
 use Rattle.text.proofs.words.trim.Goals as goal
 
+pub overflow_sub-left : goal.overflow_sub-left
+overflow_sub-left c = omega (arith, c.skip_blanks-blanks.ensures.1, ap length c.bytes.ensures, length-stretch_le c.args.text.now c.args.word.start c.args.word.len)
+
+pub bytes-requires-2 : goal.bytes-requires-2
+bytes-requires-2 c = omega (arith, c.requires, c.skip_blanks-blanks.ensures.1, ap length c.bytes.ensures, length-stretch_le c.args.text.now c.args.word.start c.args.word.len)
+
 pub returns : goal.returns
 returns c =
     let t = c.args.text.now in
-    let from = c.skip_blanks-start.result in
-    let start = c.skip_blanks-start.ensures.0 in
-    let bytes = rw c.between-left.ensures at c.bytes.ensures in
-    let left = c.trim_end.ensures ∙ ap trim_end bytes in
-    let short : length c.trim_end.result.now ≤ c.args.word.start + c.args.word.len - from =
-    omega (arith, ap length left, trim_end-length (stretch t from (c.args.word.start + c.args.word.len - from)), length-stretch_le t from (c.args.word.start + c.args.word.len - from)) in
-    (trim_made t c.args.word from c.trim_end.result.now (start ∙ ap (λ n. c.args.word.start + run is_blank (stretch t c.args.word.start n)) (omega arith)) left, omega arith, omega arith)
+    let word = c.args.word in
+    let n = c.skip_blanks-blanks.result in
+    let start = ap (λ k. word.start + k) (c.skip_blanks-blanks.ensures.0 ∙ ap (run is_blank) c.bytes.ensures) in
+    let left = c.trim_end.ensures ∙ ap trim_end c.bytes-2.ensures in
+    let rest : word.len - n ≡ word.start + word.len - (word.start + n) = omega arith in
+    let within : n ≤ word.len = omega (arith, c.skip_blanks-blanks.ensures.1, ap length c.bytes.ensures, length-stretch_le t word.start word.len) in
+    let short : length c.trim_end.result.now ≤ word.len - n =
+    omega (arith, ap length left, trim_end-length (stretch t (word.start + n) (word.len - n)), length-stretch_le t (word.start + n) (word.len - n)) in
+    (trim_made t word (word.start + n) c.trim_end.result.now start (left ∙ ap (λ k. trim_end (stretch t (word.start + n) k)) rest), omega arith, omega (arith, within, short))

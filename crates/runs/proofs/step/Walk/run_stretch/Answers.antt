@@ -4,7 +4,7 @@ use mathlib.Core.List.{List}
 use Prim.Native.Nat.{ℕ, ◌≤◌}
 use Rattle.runs.specs.Steps.{Steppable, Walked}
 use Rattle.runs.proofs.Walked.{walked_then, walked_off}
-use Rattle.runs.proofs.step.Walk.run_stretch.Goals.{else-plain-via-then-plain+else-is_some, else-plain-via-else-plain}
+use Rattle.runs.proofs.step.Walk.run_stretch.Goals.{else-eq-via-then-eq+else-is_some, else-eq-via-else-eq}
 use Rattle.runs.proofs.step.Walk.run_stretch.Goals as goal
 
 -- what a store has where the steps of plain cells were not asked for, or stopped and were undone
@@ -20,17 +20,17 @@ returns-then-is_some g c = (
 
 pub run_list-requires : goal.run_list-requires
 run_list-requires g c =
-    let k : Kept c.args.self.now.nodes.words.now c.args.self.now.nodes.count c.args.self.now.order.now c.args.from c.args.values.now c.else-plain.values = elim c.else-plain.branch [
-      | else-plain-via-then-plain+else-is_some w ↦ rw w.values-is (w.plain_stretch.ensures.1 (sym w.if-is_some.ensures))
-      | else-plain-via-else-plain w ↦ rw w.values-is (c.requires.0, λ start old s p. p)
+    let k : Kept c.args.self.now.nodes.words.now c.args.self.now.nodes.count c.args.self.now.order.now c.args.from c.args.values.now c.else-eq.values = elim c.else-eq.branch [
+      | else-eq-via-then-eq+else-is_some w ↦ rw w.values-is (w.plain_stretch.ensures.1 (sym w.if-is_some.ensures))
+      | else-eq-via-else-eq w ↦ rw w.values-is (c.requires.0, λ start old s p. p)
     ] in
     (k.0, c.requires.1, c.requires.2)
 
 pub returns-in_err-run_list : goal.returns-in_err-run_list
 returns-in_err-run_list g c =
-    let k : Kept c.args.self.now.nodes.words.now c.args.self.now.nodes.count c.args.self.now.order.now c.args.from c.args.values.now c.else-plain.values = elim c.else-plain.branch [
-      | else-plain-via-then-plain+else-is_some w ↦ rw w.values-is (w.plain_stretch.ensures.1 (sym w.if-is_some.ensures))
-      | else-plain-via-else-plain w ↦ rw w.values-is (c.requires.0, λ start old s p. p)
+    let k : Kept c.args.self.now.nodes.words.now c.args.self.now.nodes.count c.args.self.now.order.now c.args.from c.args.values.now c.else-eq.values = elim c.else-eq.branch [
+      | else-eq-via-then-eq+else-is_some w ↦ rw w.values-is (w.plain_stretch.ensures.1 (sym w.if-is_some.ensures))
+      | else-eq-via-else-eq w ↦ rw w.values-is (c.requires.0, λ start old s p. p)
     ] in
     rw c.from_residual.ensures (
       λ e. absurd (false≢true e),
@@ -39,9 +39,9 @@ returns-in_err-run_list g c =
 
 pub returns : goal.returns
 returns g c =
-    let k : Kept c.args.self.now.nodes.words.now c.args.self.now.nodes.count c.args.self.now.order.now c.args.from c.args.values.now c.else-plain.values = elim c.else-plain.branch [
-      | else-plain-via-then-plain+else-is_some w ↦ rw w.values-is (w.plain_stretch.ensures.1 (sym w.if-is_some.ensures))
-      | else-plain-via-else-plain w ↦ rw w.values-is (c.requires.0, λ start old s p. p)
+    let k : Kept c.args.self.now.nodes.words.now c.args.self.now.nodes.count c.args.self.now.order.now c.args.from c.args.values.now c.else-eq.values = elim c.else-eq.branch [
+      | else-eq-via-then-eq+else-is_some w ↦ rw w.values-is (w.plain_stretch.ensures.1 (sym w.if-is_some.ensures))
+      | else-eq-via-else-eq w ↦ rw w.values-is (c.requires.0, λ start old s p. p)
     ] in (
       λ e start old s p. walked_then c.args.self.now.nodes.words.now c.args.self.now.nodes.count c.args.self.now.order.now start c.args.from c.args.end old _ _ s c.requires.1 (k.1 start old s p) (c.in_ok-run_list.ensures.walked refl),
       λ e. absurd (true≢false e),

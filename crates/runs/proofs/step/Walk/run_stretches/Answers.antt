@@ -3,6 +3,7 @@ use Prim.Native.Nat.{ℕ, zero-le}
 use native.Mathlib.Omega.{arith}
 use lib.ListN.{length}
 use Rattle.runs.specs.Steps.{Walked}
+use Rattle.runs.proofs.Parts.{part_length}
 use Rattle.runs.proofs.Through.{through_stopped}
 use Rattle.runs.proofs.Walked.{walked_none, went_on, went_off}
 use Rattle.runs.proofs.step.Walk.run_stretches.Goals as goal
@@ -11,7 +12,7 @@ pub loop-from-init : goal.loop-from-init
 loop-from-init g c = (walked_none c.args.self.now.nodes.words.now c.args.self.now.nodes.count c.args.self.now.order.now 0 c.args.values.now c.requires, zero-le, c.first_lead-lead.ensures)
 
 pub look_ahead-lead-requires : goal.look_ahead-lead-requires
-look_ahead-lead-requires g c = (c.stretch_end-end.ensures.2 c.loop-from-test.true, c.stretch_end-end.ensures.1, c.loop-from.invariant.2)
+look_ahead-lead-requires g c = (omega (arith, c.stretch_end-end.ensures.2 c.loop-from-test.true, part_length c.args.self.now.order.now c.loop-from.from c.stretch_end-end.result c.stretch_end-end.ensures.1), c.loop-from.invariant.2)
 
 pub run_stretch-requires : goal.run_stretch-requires
 run_stretch-requires g c = (c.loop-from.invariant.0.steppable, c.stretch_end-end.ensures.0, c.stretch_end-end.ensures.1)

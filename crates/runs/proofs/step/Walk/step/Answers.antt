@@ -4,17 +4,9 @@ use Prim.Native.Nat.{◌<◌}
 use native.Mathlib.Omega.{arith}
 use borrow.Author.Tests.{ltb-false}
 use lib.ListN.{set}
-use Rattle.laws.proofs.Tests.{clash}
 use Rattle.circuit.specs.Records.{node_at}
 use Rattle.runs.proofs.Standing.{answer_small}
-use Rattle.runs.proofs.Turns.{kind_word, word_other}
 use Rattle.runs.proofs.step.Walk.step.Goals as goal
-
-pub returns-then-self-x-ne2 : goal.returns-then-self-x-ne2
-returns-then-self-x-ne2 g c = (λ t. clash t.cell (word_other c.args.self.now.nodes.words.now c.args.x c.if-self-x-ne2.true), λ e. absurd (false≢true e))
-
-pub cell-place-requires : goal.cell-place-requires
-cell-place-requires g c = (c.requires.0, c.requires.1, c.requires.2, kind_word c.args.self.now.nodes.words.now c.args.x ∙ c.if-self-x-ne2.false)
 
 pub returns-in_err-values : goal.returns-in_err-values
 returns-in_err-values g c =

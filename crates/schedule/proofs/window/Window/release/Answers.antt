@@ -18,9 +18,6 @@ bounds-area-node c = omega (arith, releasable_room _ _ _ _ c.requires.0)
 pub loop-edge-init : goal.loop-edge-init
 loop-edge-init c = (descend_none _ _ _ _ _, refl, c.requires.1, refl)
 
-pub overflow_sub-edge : goal.overflow_sub-edge
-overflow_sub-edge c = omega (arith, c.loop-edge-test.true)
-
 pub lower-at-requires : goal.lower-at-requires
 lower-at-requires c = let s = safe _ _ _ _ _ _ c.loop-edge.invariant.0 c.requires.0 c.loop-edge-test.true in (c.loop-edge.invariant.2, s.reader, s.fresh, s.some, c.requires.3)
 
@@ -38,9 +35,6 @@ loop-edge-preserved c = (descend_more _ _ _ _ _ _ _ _ c.loop-edge.invariant.0 c.
 
 pub unmark-requires : goal.unmark-requires
 unmark-requires c = let t = takable _ _ _ _ _ _ c.loop-edge.invariant.0 c.requires.0 in (c.loop-edge.invariant.2, omega (arith, c.loop-edge.invariant.3, c.requires.2), t.flag, c.requires.3)
-
-pub shape_of-area : goal.shape_of-area
-shape_of-area c = c.unmark.ensures.0.size ∙ c.loop-edge.invariant.1
 
 pub returns : goal.returns
 returns c = (descended _ _ _ _ _ _ c.loop-edge.invariant.0 c.loop-edge-test.false _ c.unmark.ensures.0, c.unmark.ensures.1)

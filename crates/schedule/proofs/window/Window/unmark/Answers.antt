@@ -3,9 +3,6 @@ use native.Mathlib.Omega.{arith}
 use Rattle.schedule.proofs.Keeping.{moved_fronted, moved_stale, moved_tracked, inside_some}
 use Rattle.schedule.proofs.window.Window.unmark.Goals as goal
 
-pub mark_ready-requires : goal.mark_ready-requires
-mark_ready-requires c = (c.requires.0.ranked.size, omega (arith, c.requires.1, c.requires.0.ranked.bound), c.requires.0.levels)
-
 pub refresh-requires : goal.refresh-requires
 refresh-requires c = (moved_stale c.args.count c.args.keys.now c.args.area.now c.args.self c.requires.0 c.args.node c.mark_ready.new.area c.mark_ready.ensures.1 c.mark_ready.ensures.0, omega (arith, c.requires.1, c.requires.0.ranked.bound), c.requires.3)
 
