@@ -82,7 +82,7 @@ impl Seen {
     }
 }
 
-/// How many cells of an order the tree takes. By crates/schedule/src/taking.rt a step that may take more than 32 cells looks at each
+/// How many cells of an order the tree takes. By crates/ordering/src/taking.rt a step that may take more than 32 cells looks at each
 /// of them, and the tree takes over where these steps would have looked at more cells than there are nodes.
 fn by_tree(circuit: &BoolCircuit, list: &[usize], window: usize) -> usize {
     let count = circuit.nodes.len();

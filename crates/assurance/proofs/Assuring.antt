@@ -12,14 +12,15 @@ use Rattle.laws.proofs.Areas.{length-encodes}
 use Rattle.circuit.specs.declared.records.Output.{Output}
 use Rattle.circuit.specs.Records.{encode_node, encode_output, nodes_of, output_wires}
 use Rattle.circuit.specs.Check.{nodes_in, wires_in, check_circuit, topological_fault}
-use Rattle.circuit.specs.Graph.{Vertex, cells_of, graph_of, fit_list, InOrder, ListsAll}
+use Rattle.graphs.specs.Graph.{Vertex, cells_of, fit_list, InOrder, ListsAll}
+use Rattle.circuit.specs.Graph.{graph_of}
 use Rattle.circuit.specs.Circuits.{Circuit}
 use Rattle.circuit.proofs.Codes.{node_wide, output_wide, nodes_of_area, outputs_of_area, wires_of_outputs}
 use Rattle.circuit.proofs.Checks.{is_whole, circuit-sound}
-use Rattle.schedule.specs.Schedule.{key_at, schedule_of}
+use Rattle.ordering.specs.Schedule.{key_at, schedule_of}
 use Rattle.schedule.specs.Call.{graph_in, order_in, room, call_fault, schedule_fault}
 use Rattle.schedule.specs.Promises.{Promised}
-use Rattle.schedule.proofs.Order.{schedule_fit}
+use Rattle.ordering.proofs.Order.{schedule_fit}
 use Rattle.schedule.proofs.Theorems.{validated_records, promised}
 use Rattle.runs.specs.Runs.{wrong_assignment}
 use Rattle.runs.specs.Calls.{assignment_fault, order_fault, room_fault, run_fault, evaluate_fault}

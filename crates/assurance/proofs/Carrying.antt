@@ -11,7 +11,8 @@ use lib.ListN.{length, take, replicate, length-append}
 use lib.Seq.{take_at}
 use Rattle.circuit.specs.declared.refusals.Refusal.{Refusal}
 use Rattle.circuit.specs.Check.{check_circuit}
-use Rattle.circuit.specs.Graph.{cells_of, graph_of}
+use Rattle.graphs.specs.Graph.{cells_of}
+use Rattle.circuit.specs.Graph.{graph_of}
 use Rattle.circuit.specs.Circuits.{Circuit, filled}
 use Rattle.schedule.specs.Call.{Left, leaves, schedule_call}
 use Rattle.runs.specs.Runs.{wrong_assignment}

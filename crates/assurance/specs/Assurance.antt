@@ -6,9 +6,10 @@ use Rattle.circuit.specs.declared.records.BoolWire.{BoolWire}
 use Rattle.circuit.specs.declared.records.Output.{Output}
 use Rattle.circuit.specs.Records.{encode_node, encode_output}
 use Rattle.circuit.specs.Check.{check_circuit}
-use Rattle.circuit.specs.Graph.{graph_of, InOrder, ListsAll}
+use Rattle.circuit.specs.Graph.{graph_of}
+use Rattle.graphs.specs.Graph.{InOrder, ListsAll}
 use Rattle.circuit.specs.Circuits.{Circuit}
-use Rattle.schedule.specs.Schedule.{key_at, schedule_of}
+use Rattle.ordering.specs.Schedule.{key_at, schedule_of}
 use Rattle.schedule.specs.Call.{schedule_fault}
 use Rattle.runs.specs.Values.{storage_outputs, evaluated}
 use Rattle.runs.specs.Runs.{run_outputs, wrong_assignment}

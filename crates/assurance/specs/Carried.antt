@@ -2,7 +2,8 @@
 -- Assumes nothing.
 use Rattle.std.specs.Prelude.{ℕ, ◌≤◌, ◌≡◌, false, List, [], length, replicate, Ok}
 use Rattle.circuit.specs.Check.{check_circuit}
-use Rattle.circuit.specs.Graph.{cells_of, graph_of}
+use Rattle.graphs.specs.Graph.{cells_of}
+use Rattle.circuit.specs.Graph.{graph_of}
 use Rattle.circuit.specs.Circuits.{Circuit, filled}
 use Rattle.runs.specs.Runs.{wrong_assignment}
 use Rattle.runs.specs.Calls.{call_result, run_call, evaluate_call}

@@ -18,9 +18,10 @@ use Rattle.circuit.specs.declared.records.BoolWire.TheVariants.{Const, Node}
 use Rattle.circuit.specs.declared.records.BoolNode.{BoolNode}
 use Rattle.circuit.specs.Records.{is_cell_node, wires_of, no_node}
 use Rattle.circuit.specs.Check.{some_not_below, check_circuit}
-use Rattle.circuit.specs.Graph.{Vertex, nodes_read, vertex_of, graph_of, outside, is_cell, reads_of, Forward}
+use Rattle.graphs.specs.Graph.{Vertex, outside, is_cell, reads_of, Forward}
+use Rattle.circuit.specs.Graph.{nodes_read, vertex_of, graph_of}
 use Rattle.circuit.proofs.Checks.{Sounds, circuit-sound}
-use Rattle.circuit.proofs.Graph.{cell_below}
+use Rattle.graphs.proofs.Graph.{cell_below}
 
 outside_vertex : vertex_of no_node ≡ outside
 unfolding vertex_of no_node outside is_cell_node wires_of nodes_read

@@ -19,7 +19,7 @@ use Rattle.circuit.specs.Records.{no_node, encode_output, output_from, output_at
 use Rattle.laws.specs.Areas.{encodes, stored}
 use Rattle.laws.specs.Areas.{up_from}
 use Rattle.laws.proofs.Storing.{list_of, more_list, more_clean, up_at}
-use Rattle.laws.proofs.Areas.{record-at, length_up}
+use Rattle.laws.proofs.Areas.{length_up}
 
 pub wire_of_node : (x : ℕ) → (x ≡ 0 → ⊥) → (x ≡ 1 → ⊥) → wire_of x ≡ Node (record { 0 = x - 2 })
 wire_of_node zero p q = absurd (p refl)

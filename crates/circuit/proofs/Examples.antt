@@ -14,7 +14,8 @@ use Rattle.circuit.specs.declared.records.Output.{Output}
 use Rattle.circuit.specs.Refusals.{checked_number}
 use Rattle.circuit.specs.Records.{encode_node, nodes_of, encode_output, outputs_of, is_cell_node, wires_of}
 use Rattle.circuit.specs.Check.{cell_broken, record_broken, check_wires, check_node, check_nodes, check_circuit, node_broken, circuit_broken, whole, topological_fault, records_fault}
-use Rattle.circuit.specs.Graph.{Vertex, nodes_read, vertex_of, graph_of}
+use Rattle.graphs.specs.Graph.{Vertex}
+use Rattle.circuit.specs.Graph.{nodes_read, vertex_of, graph_of}
 
 abbrev n : ℕ → BoolWire
 n k = Node (record { 0 = k })

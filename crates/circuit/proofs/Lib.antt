@@ -1,6 +1,5 @@
 pub mod Codes
 pub mod Checks
-pub mod Graph
 pub mod Circuits
 pub mod Sitting
 pub mod Tries

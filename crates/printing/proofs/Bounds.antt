@@ -15,7 +15,8 @@ use Rattle.laws.proofs.Areas.{length-encodes}
 use Rattle.circuit.specs.Refusals.{Try, Checked, check_then}
 use Rattle.circuit.specs.Circuits.{Circuit, filled, read_answer, node_words, output_words}
 use Rattle.circuit.specs.Records.{encode_node, encode_output, nodes_of}
-use Rattle.circuit.specs.Graph.{vertex_of, graph_of, is_cell, cells_of}
+use Rattle.circuit.specs.Graph.{vertex_of, graph_of}
+use Rattle.graphs.specs.Graph.{is_cell, cells_of}
 use Rattle.circuit.proofs.Codes.{node_wide, output_wide, length_nodes}
 use Rattle.reading.specs.Areas.{Leaves}
 use Rattle.schedule.specs.Call.{ordered_cells, graph_in, leaves, schedule_fault, schedule_call}

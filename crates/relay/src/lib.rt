@@ -3,6 +3,6 @@
 #![tactic(auto)]
 
 pub mod answers;
-pub mod ordering;
+pub mod checking;
 pub mod parsing;
 pub mod running;

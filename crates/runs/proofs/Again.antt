@@ -14,10 +14,11 @@ use Rattle.std.proofs.lemmas.Bool.{and_parts, false_from_ne_true}
 use Rattle.laws.specs.Lists.{elem}
 use Rattle.laws.proofs.Lists.{elem_snoc_more}
 use Rattle.laws.proofs.Tests.{clash}
-use Rattle.circuit.specs.Graph.{Vertex, graph_of, waits, ready, fit}
+use Rattle.graphs.specs.Graph.{Vertex, waits, ready, fit}
+use Rattle.circuit.specs.Graph.{graph_of}
 use Rattle.circuit.specs.Records.{nodes_of}
 use Rattle.circuit.proofs.Codes.{length_nodes}
-use Rattle.circuit.proofs.Graph.{waits-cell, waits_fresh, waits_makes, ready-waits}
+use Rattle.graphs.proofs.Graph.{waits-cell, waits_fresh, waits_makes, ready-waits}
 use Rattle.runs.specs.Fit.{Accepted}
 use Rattle.runs.specs.Work.{mark_count}
 use Rattle.runs.specs.Steps.{Steppable, Standing, fit_from, Through, Walked, Unnamed, OthersKept, MarkedAgain}

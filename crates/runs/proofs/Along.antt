@@ -18,8 +18,9 @@ use Rattle.circuit.specs.declared.records.BoolWire.TheVariants.{Const, Node}
 use Rattle.circuit.specs.declared.records.BoolNode.{BoolNode}
 use Rattle.circuit.specs.Records.{no_node, wires_of}
 use Rattle.circuit.specs.Check.{some_not_below}
-use Rattle.circuit.specs.Graph.{nodes_read, graph_of, is_cell, reads_of, cells_of, waits, ready, fit, fit_list}
-use Rattle.circuit.proofs.Graph.{cell_below, waits-cell, ready-waits, ready-free, free_at, left, left_fit, left_start, left_none}
+use Rattle.circuit.specs.Graph.{nodes_read, graph_of}
+use Rattle.graphs.specs.Graph.{is_cell, reads_of, cells_of, waits, ready, fit, fit_list}
+use Rattle.graphs.proofs.Graph.{cell_below, waits-cell, ready-waits, ready-free, free_at, left, left_fit, left_start, left_none}
 use Rattle.circuit.proofs.Checks.{Sounds}
 use Rattle.circuit.proofs.Circuits.{cell-at, reads_at, length_graph, read_below}
 use Rattle.cells.specs.Cells.{cell_rule}

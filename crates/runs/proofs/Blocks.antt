@@ -12,8 +12,8 @@ use lib.ListN.{length}
 use Rattle.std.proofs.lemmas.Bool.{and_from, and_parts, false_from_ne_true}
 use Rattle.laws.specs.Lists.{elem}
 use Rattle.laws.proofs.Tests.{clash}
-use Rattle.circuit.specs.Graph.{Vertex, is_cell, reads_of, waits, free, ready, fit}
-use Rattle.circuit.proofs.Graph.{cell_below, waits-cell, waits_fresh, waits_makes, ready-waits, ready-free, ready_makes}
+use Rattle.graphs.specs.Graph.{Vertex, is_cell, reads_of, waits, free, ready, fit}
+use Rattle.graphs.proofs.Graph.{cell_below, waits-cell, waits_fresh, waits_makes, ready-waits, ready-free, ready_makes}
 use Rattle.runs.specs.Fit.{free_in, ready_in, fit_in, within}
 use Rattle.runs.proofs.Marking.{block_in}
 

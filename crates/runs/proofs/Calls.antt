@@ -18,7 +18,8 @@ use Rattle.circuit.specs.declared.records.BoolNode.{BoolNode}
 use Rattle.circuit.specs.Refusals.{number_of, refuse_if, first_fault}
 use Rattle.circuit.specs.Records.{nodes_of}
 use Rattle.circuit.specs.Check.{some_not_below, whole, check_nodes, check_circuit, nodes_in, wires_in, topological_fault}
-use Rattle.circuit.specs.Graph.{graph_of, cells_of, fit, fit_list}
+use Rattle.circuit.specs.Graph.{graph_of}
+use Rattle.graphs.specs.Graph.{cells_of, fit, fit_list}
 use Rattle.circuit.proofs.Codes.{length_nodes}
 use Rattle.circuit.proofs.Checks.{no_fault, not_refused}
 use Rattle.runs.specs.Values.{entry_of, values_from, evaluated}

@@ -18,9 +18,10 @@ use Rattle.circuit.specs.declared.records.BoolWire.TheVariants.{Const, Node}
 use Rattle.circuit.specs.declared.records.BoolNode.{BoolNode}
 use Rattle.circuit.specs.Records.{node_at, nodes_of, is_cell_node, no_node, wires_of}
 use Rattle.circuit.specs.Check.{not_below, some_not_below, node_broken}
-use Rattle.circuit.specs.Graph.{graph_of, waits}
+use Rattle.circuit.specs.Graph.{graph_of}
+use Rattle.graphs.specs.Graph.{waits}
 use Rattle.circuit.proofs.Codes.{length_nodes, node_of}
-use Rattle.circuit.proofs.Graph.{waits-cell}
+use Rattle.graphs.proofs.Graph.{waits-cell}
 use Rattle.circuit.proofs.Circuits.{cell-at}
 use Rattle.cells.specs.Cells.{entry, index_from}
 use Rattle.cells.proofs.Rule.{entry-bit}

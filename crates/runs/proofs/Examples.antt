@@ -14,7 +14,8 @@ use Rattle.circuit.specs.declared.records.BoolNode.{BoolNode}
 use Rattle.circuit.specs.declared.records.Output.{Output}
 use Rattle.circuit.specs.Records.{encode_node, encode_output, is_cell_node, wires_of, no_node}
 use Rattle.circuit.specs.Check.{cell_broken, record_broken, check_wires, check_node, check_nodes, check_circuit, node_broken, circuit_broken, whole, topological_fault, records_fault}
-use Rattle.circuit.specs.Graph.{nodes_read, vertex_of, graph_of, outside, is_cell, reads_of, cells_of, waits, free, ready, fit, fit_list}
+use Rattle.circuit.specs.Graph.{nodes_read, vertex_of, graph_of}
+use Rattle.graphs.specs.Graph.{outside, is_cell, reads_of, cells_of, waits, free, ready, fit, fit_list}
 use Rattle.cells.specs.Cells.{index_from}
 use Rattle.runs.specs.Values.{answer_of, values_from, outputs_from, storage_values, storage_outputs, entry_of, evaluated}
 use Rattle.runs.specs.Runs.{put_in, step, steps, run_store, run_outputs, input_count, wrong_assignment, numbered}

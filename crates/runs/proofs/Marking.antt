@@ -25,8 +25,9 @@ use Rattle.circuit.specs.declared.records.BoolWire.TheVariants.{Const, Node}
 use Rattle.circuit.specs.declared.records.BoolNode.{BoolNode}
 use Rattle.circuit.specs.Records.{node_at, nodes_of, is_cell_node, wires_of}
 use Rattle.circuit.specs.Check.{not_below, some_not_below}
-use Rattle.circuit.specs.Graph.{nodes_read, graph_of, is_cell, reads_of, waits}
-use Rattle.circuit.proofs.Graph.{cell_below}
+use Rattle.circuit.specs.Graph.{nodes_read, graph_of}
+use Rattle.graphs.specs.Graph.{is_cell, reads_of, waits}
+use Rattle.graphs.proofs.Graph.{cell_below}
 use Rattle.circuit.proofs.Codes.{node_of, length_nodes}
 use Rattle.circuit.proofs.Circuits.{cell-at, reads_at, length_graph}
 use Rattle.cells.specs.Cells.{entry}

@@ -14,7 +14,8 @@ use Rattle.circuit.specs.declared.refusals.Refusal.TheVariants.{Broken}
 use Rattle.circuit.specs.Refusals.{refuse_if}
 use Rattle.circuit.specs.Records.{nodes_of}
 use Rattle.circuit.specs.Check.{check_circuit, whole, nodes_in, wires_in, topological_fault}
-use Rattle.circuit.specs.Graph.{graph_of, cells_of, fit, fit_list}
+use Rattle.circuit.specs.Graph.{graph_of}
+use Rattle.graphs.specs.Graph.{cells_of, fit, fit_list}
 use Rattle.circuit.proofs.Codes.{length_nodes}
 use Rattle.circuit.proofs.Checks.{no_fault, Sounds, circuit-sound}
 use Rattle.runs.specs.Values.{outputs_from}

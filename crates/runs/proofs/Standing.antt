@@ -22,9 +22,10 @@ use Rattle.circuit.specs.declared.records.BoolWire.TheVariants.{Const, Node}
 use Rattle.circuit.specs.declared.records.BoolNode.{BoolNode}
 use Rattle.circuit.specs.Records.{node_at, nodes_of, is_cell_node, no_node, wires_of}
 use Rattle.circuit.specs.Check.{some_not_below, check_circuit}
-use Rattle.circuit.specs.Graph.{Vertex, nodes_read, graph_of, reads_of, cells_of, waits, ready, fit, fit_list}
+use Rattle.graphs.specs.Graph.{Vertex, reads_of, cells_of, waits, ready, fit, fit_list}
+use Rattle.circuit.specs.Graph.{nodes_read, graph_of}
 use Rattle.circuit.proofs.Codes.{length_nodes, node_of}
-use Rattle.circuit.proofs.Graph.{cell_below, waits-cell, waits_fresh, waits_makes, waits_taken, ready-waits, ready-free, ready_makes, free_at, free_makes, left, left_fit, left_start, left_none}
+use Rattle.graphs.proofs.Graph.{cell_below, waits-cell, waits_fresh, waits_makes, waits_taken, ready-waits, ready-free, ready_makes, free_at, free_makes, left, left_fit, left_start, left_none}
 use Rattle.circuit.proofs.Checks.{Passed, Sounds, circuit-sound}
 use Rattle.circuit.proofs.Circuits.{cell-at, reads_at, length_graph, read_below}
 use Rattle.cells.specs.Cells.{entry, fillings, agreed}

@@ -11,7 +11,8 @@ use lib.ListN.{length, get_or, take}
 use Rattle.laws.proofs.Filling.{take_next}
 use Rattle.circuit.specs.Records.{node_at, nodes_of, is_cell_node}
 use Rattle.circuit.specs.Check.{node_broken}
-use Rattle.circuit.specs.Graph.{graph_of, fit}
+use Rattle.circuit.specs.Graph.{graph_of}
+use Rattle.graphs.specs.Graph.{fit}
 use Rattle.runs.specs.Fit.{Accepted}
 use Rattle.runs.specs.Work.{Tells}
 use Rattle.runs.specs.Steps.{Steppable, Turn, Stepped, Unmarked, Standing, fit_from, Through}

@@ -21,7 +21,8 @@ use Rattle.circuit.specs.declared.records.BoolWire.TheVariants.{Node}
 use Rattle.circuit.specs.declared.records.BoolNode.{BoolNode}
 use Rattle.circuit.specs.Records.{wire_of, node_at, nodes_of, output_wire, output_wires, is_cell_node, no_node, no_wire}
 use Rattle.circuit.specs.Check.{not_below}
-use Rattle.circuit.specs.Graph.{Vertex, graph_of, is_cell, cells_of}
+use Rattle.graphs.specs.Graph.{Vertex, is_cell, cells_of}
+use Rattle.circuit.specs.Graph.{graph_of}
 use Rattle.circuit.proofs.Codes.{wire_of_node, node_of, length_nodes, length_output_wires}
 use Rattle.circuit.proofs.Checks.{Passed, nodes_passed}
 use Rattle.circuit.proofs.Circuits.{cell-at, length_graph}

@@ -4,7 +4,8 @@ use Rattle.std.specs.Prelude.{List, ◌++◌, not, ◌||◌, ℕ, ◌-◌, ◌/�
 use Rattle.circuit.specs.declared.refusals.Refusal.TheVariants.{NoRoom, WrongValues, UnfitOrder, TooManyInputs}
 use Rattle.circuit.specs.Refusals.{number_of, Try, Checked, refuse_if, first_fault}
 use Rattle.circuit.specs.Check.{nodes_in, wires_in, topological_fault, records_fault}
-use Rattle.circuit.specs.Graph.{graph_of, cells_of, fit_list}
+use Rattle.circuit.specs.Graph.{graph_of}
+use Rattle.graphs.specs.Graph.{cells_of, fit_list}
 use Rattle.runs.specs.Values.{evaluated}
 use Rattle.runs.specs.Runs.{run_outputs, input_count, wrong_assignment, numbered}
 

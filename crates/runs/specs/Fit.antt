@@ -7,7 +7,8 @@ use Rattle.circuit.specs.declared.records.BoolWire.{BoolWire}
 use Rattle.circuit.specs.declared.records.BoolWire.TheVariants.{Const, Node}
 use Rattle.circuit.specs.Records.{nodes_of}
 use Rattle.circuit.specs.Check.{check_nodes}
-use Rattle.circuit.specs.Graph.{Vertex, is_cell, reads_of, waits, graph_of}
+use Rattle.graphs.specs.Graph.{Vertex, is_cell, reads_of, waits}
+use Rattle.circuit.specs.Graph.{graph_of}
 
 -- no cell among these reads that passes the test waits
 unfoldable pub free_in : (ℕ → Bool) → List Vertex → List ℕ → List ℕ → Bool

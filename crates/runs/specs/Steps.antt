@@ -6,7 +6,8 @@ use Rattle.circuit.specs.declared.records.BoolWire.{BoolWire}
 use Rattle.circuit.specs.declared.records.BoolNode.{BoolNode}
 use Rattle.circuit.specs.Records.{node_at, nodes_of, is_cell_node, wires_of}
 use Rattle.circuit.specs.Check.{node_broken}
-use Rattle.circuit.specs.Graph.{graph_of, waits, fit}
+use Rattle.circuit.specs.Graph.{graph_of}
+use Rattle.graphs.specs.Graph.{waits, fit}
 use Rattle.cells.specs.Cells.{AnswerTable}
 use Rattle.runs.specs.Values.{signal_value, answer_of, storage_values}
 use Rattle.runs.specs.Fit.{Accepted}

@@ -2,7 +2,8 @@
 ghost use Rattle.std.specs.Prelude.{◌≡◌, false, [], ◌-◌, ◌*◌, ◌/◌, ◌%◌, ◌<◌, ◌≤◌, length, is_some, MatchOption};
 ghost use Rattle.circuit.specs.Records.{wires_of, nodes_of};
 ghost use Rattle.circuit.specs.Check.{not_below, some_not_below};
-ghost use Rattle.circuit.specs.Graph.{graph_of, fit, fit_list};
+ghost use Rattle.circuit.specs.Graph.{graph_of};
+ghost use Rattle.graphs.specs.Graph.{fit, fit_list};
 ghost use Rattle.runs.specs.Runs.{input_count};
 ghost use Rattle.runs.specs.Fit.{within, block_size, fit_in, Marks, waits_here, wire_waits, some_waits, Accepted, Marking, Entering};
 

@@ -3,7 +3,8 @@ ghost use Rattle.std.specs.Prelude.{◌≡◌, true, false, [], ◌++◌, ◌+�
 ghost use Rattle.laws.specs.Lists.{some};
 ghost use Rattle.circuit.specs.Records.{nodes_of};
 ghost use Rattle.circuit.specs.Check.{nodes_in, wires_in};
-ghost use Rattle.circuit.specs.Graph.{graph_of, fit};
+ghost use Rattle.circuit.specs.Graph.{graph_of};
+ghost use Rattle.graphs.specs.Graph.{fit};
 ghost use Rattle.runs.specs.Runs.{run_outputs};
 ghost use Rattle.runs.specs.Work.{Tells, Passing};
 ghost use Rattle.runs.specs.Steps.{Standing};

@@ -1,5 +1,6 @@
 -- The checks of the call, one after the other, and what the call leaves.
 -- Assumes nothing.
+use Rattle.ordering.specs.declared.reads.TheConstants.{READS}
 use Rattle.std.specs.Prelude.{Err, Ok}
 use Prim.Native.Nat.{ℕ, ◌+◌, ◌-◌, ◌*◌, ◌/◌, ◌≤◌, ◌<◌}
 use mathlib.Core.Path.{◌≡◌, refl, sym, ap, ap₂, ◌∙◌}
@@ -15,13 +16,14 @@ use Rattle.circuit.specs.declared.refusals.Refusal.{Refusal}
 use Rattle.circuit.specs.declared.refusals.Refusal.TheVariants.{Broken, NoWindow, WrongValues, NoRoom, Circle}
 use Rattle.circuit.specs.Refusals.{Try, Checked, refuse_if, first_fault}
 use Rattle.circuit.specs.Check.{whole, circuit_broken, nodes_in, wires_in, records_fault}
-use Rattle.circuit.specs.Graph.{cells_of}
+use Rattle.graphs.specs.Graph.{cells_of}
 use Rattle.circuit.proofs.Checks.{no_fault, not_refused}
-use Rattle.schedule.specs.Schedule.{key_at}
+use Rattle.ordering.specs.Schedule.{key_at, schedule_of}
 use Rattle.schedule.specs.Call.{graph_in, order_in, room, call_fault, circle_fault, schedule_fault, Left, leaves, left_by, schedule_call}
-use Rattle.schedule.specs.Areas.{Listed, Orderable}
+use Rattle.ordering.specs.Areas.{Listed}
+use Rattle.schedule.specs.Records.{Orderable}
 use Rattle.schedule.proofs.Records.{sound_wired}
-use Rattle.schedule.proofs.Complete.{count_all, count_some}
+use Rattle.ordering.proofs.Complete.{count_all, count_some}
 
 -- 3
 
@@ -30,13 +32,13 @@ module _ (n ready successors order : ℕ) where
   unfolding room
   room-ready h = rw (lt-leb (3 * n) ready h)
 
-  pub room_successors : 3 * n ≤ ready → successors < 2 * n + 1 → false ≡ room n ready successors order
+  pub room_successors : 3 * n ≤ ready → successors < READS * n + 1 → false ≡ room n ready successors order
   unfolding room
-  room_successors a h = rw (le-leb (3 * n) ready a, lt-leb (2 * n + 1) successors h)
+  room_successors a h = rw (le-leb (3 * n) ready a, lt-leb (READS * n + 1) successors h)
 
-  pub room-order : 3 * n ≤ ready → 2 * n + 1 ≤ successors → leb n order ≡ room n ready successors order
+  pub room-order : 3 * n ≤ ready → READS * n + 1 ≤ successors → leb n order ≡ room n ready successors order
   unfolding room
-  room-order a b = rw (le-leb (3 * n) ready a, le-leb (2 * n + 1) successors b)
+  room-order a b = rw (le-leb (3 * n) ready a, le-leb (READS * n + 1) successors b)
 
 -- 15, 18, 19, 3
 
@@ -98,14 +100,14 @@ module _ (nodes outputs : List ℕ) (window : ℕ) (keys : List ℕ) (ready succ
     pub orderable : Orderable nodes (length keys) window ready successors order
     unfolding room
     orderable =
-        let a = and_parts (leb (3 * (length nodes / 9)) ready) (leb (2 * (length nodes / 9) + 1) successors && leb (length nodes / 9) order) has_room in
-        let b = and_parts (leb (2 * (length nodes / 9) + 1) successors) (leb (length nodes / 9) order) a.1 in
+        let a = and_parts (leb (3 * (length nodes / 9)) ready) (leb (READS * (length nodes / 9) + 1) successors && leb (length nodes / 9) order) has_room in
+        let b = and_parts (leb (READS * (length nodes / 9) + 1) successors) (leb (length nodes / 9) order) a.1 in
         record {
           wired = sound_wired nodes (length nodes / 9) (wires_in outputs) unbroken;
           window_is = omega (arith, eqb-false window 0 (not_refused _ NoWindow window_sound.0));
           keys_are = eqb-true (length keys) (3 * (length nodes / 9)) (not-false _ (not_refused _ WrongValues keys_sound.0));
           ready_room = leb-true (3 * (length nodes / 9)) ready a.0;
-          successor_room = omega (arith, leb-true (2 * (length nodes / 9) + 1) successors b.0);
+          successor_room = omega (arith, leb-true (READS * (length nodes / 9) + 1) successors b.0);
           order_room = leb-true (length nodes / 9) order b.1;
         }
 
@@ -114,7 +116,7 @@ module _ (nodes outputs : List ℕ) (window : ℕ) (keys : List ℕ) (ready succ
 left_same : (a b : Try ℕ) (r s o r' s' o' : List ℕ) → a ≡ b → r ≡ r' → s ≡ s' → o ≡ o' → leaves a r s o ≡ leaves b r' s' o'
 left_same a b r s o r' s' o' p q u v = λ i. record { answer = p i; ready = q i; successors = u i; order = v i }
 
-module _ (nodes : List ℕ) (count : ℕ) (keys : List ℕ) (window : ℕ) (order : List ℕ) (r cells : ℕ) (l : Listed nodes count keys window order r) (e : cells ≡ length (cells_of (graph_in nodes count)))
+module _ (nodes : List ℕ) (count : ℕ) (keys : List ℕ) (window : ℕ) (order : List ℕ) (r cells : ℕ) (l : Listed (schedule_of (graph_in nodes count) window (key_at keys)) order r) (e : cells ≡ length (cells_of (graph_in nodes count)))
     (ready successors : List ℕ) (a b m : ℕ) (p : ready ≡ replicate a 0) (q : successors ≡ replicate b 0) (size : length order ≡ m) where
   -- no 17 where as many were taken as there are cells, 17 otherwise
   counts_none : r ≡ cells → circle_fault nodes count window keys ≡ Ok tt
@@ -126,6 +128,7 @@ module _ (nodes : List ℕ) (count : ℕ) (keys : List ℕ) (window : ℕ) (orde
   counts_circle differs = ap (λ (t : Bool). refuse_if t Circle) (count_some (graph_in nodes count) window (key_at keys) (λ same. differs (l.number ∙ same ∙ sym e)))
 
   pub call_cells : r ≡ cells → leaves (Ok r) ready successors order ≡ left_by (circle_fault nodes count window keys) (length (cells_of (graph_in nodes count))) (order_in nodes count window keys) a b m
+  unfolding order_in
   call_cells same =
       rw (counts_none same)
       (left_same (Ok r) (Ok (length (cells_of (graph_in nodes count)))) ready successors order (replicate a 0) (replicate b 0) (order_in nodes count window keys ++ replicate (m - length (order_in nodes count window keys)) 0)

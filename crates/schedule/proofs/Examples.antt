@@ -15,10 +15,12 @@ use Rattle.circuit.specs.declared.records.BoolNode.{BoolNode}
 use Rattle.circuit.specs.declared.records.Output.{Output}
 use Rattle.circuit.specs.Records.{encode_node, encode_output, is_cell_node, wires_of}
 use Rattle.circuit.specs.Check.{cell_broken, record_broken, node_broken, circuit_broken, whole, records_fault}
-use Rattle.circuit.specs.Graph.{nodes_read, vertex_of, graph_of, outside, is_cell, reads_of, cells_of, waits, free, ready, ready_cells}
-use Rattle.schedule.specs.Schedule.{key_at, above, best, pick, next, schedule_from, schedule_of}
+use Rattle.circuit.specs.Graph.{nodes_read, vertex_of, graph_of}
+use Rattle.graphs.specs.Graph.{outside, is_cell, reads_of, cells_of, waits, free, ready, ready_cells}
+use Rattle.ordering.specs.Schedule.{key_at, above, best, pick, next, schedule_from, schedule_of}
 use Rattle.circuit.specs.Refusals.{checked_number}
-use Rattle.schedule.specs.Call.{ordered_cells, graph_in, order_in, room, leaves_out, call_fault, circle_fault, schedule_fault, Left, leaves, schedule_call}
+use Rattle.schedule.specs.Call.{ordered_cells, graph_in, order_in, room, call_fault, circle_fault, schedule_fault, Left, leaves, schedule_call}
+use Rattle.ordering.specs.Promises.{leaves_out}
 
 abbrev n : ℕ → BoolWire
 n k = Node (record { 0 = k })

@@ -1,7 +1,7 @@
 -- The flat words of the node records against the graph of the same records.
 -- Assumes nothing.
 use Prim.Native.Nat.{ℕ, zero, suc, ◌+◌, ◌*◌, ◌<◌}
-use mathlib.Core.Path.{◌≡◌, refl, ap, ◌∙◌}
+use mathlib.Core.Path.{◌≡◌, refl, sym, ap, ◌∙◌}
 use mathlib.Core.Bool.{Bool, true, false, cond}
 use mathlib.Core.List.{List, [], ◌∷◌, ◌++◌, append-nil}
 use native.Mathlib.Omega.{arith}
@@ -18,10 +18,12 @@ use Rattle.circuit.specs.declared.records.BoolWire.{BoolWire}
 use Rattle.circuit.specs.declared.records.BoolNode.{BoolNode}
 use Rattle.circuit.specs.Records.{wire_of, node_at, nodes_of, is_cell_node, wires_of, no_node}
 use Rattle.circuit.specs.Check.{not_below, some_not_below, record_broken, node_broken, circuit_broken}
-use Rattle.circuit.specs.Graph.{is_cell, reads_of, nodes_read}
+use Rattle.graphs.specs.Graph.{is_cell, reads_of}
+use Rattle.circuit.specs.Graph.{nodes_read}
 use Rattle.circuit.proofs.Circuits.{cell-at, reads_at, length_graph}
+use Rattle.ordering.specs.declared.reads.TheConstants.{READS}
 use Rattle.schedule.specs.Call.{graph_in}
-use Rattle.schedule.specs.Areas.{cell_at, wire_at, Wired}
+use Rattle.schedule.specs.Records.{cell_at, wire_at, Wired}
 
 -- what the word of a wire reads
 abbrev pub wire_reads : ℕ → List ℕ
@@ -103,11 +105,17 @@ module _ (nodes : List ℕ) (n : ℕ) where
   unfolding graph_in
   cell-is k h = cell-at (nodes_of nodes n) k ∙ ap is_cell_node (node_is k h) ∙ cell-words nodes k
 
-  pub reads_is : (k : ℕ) → k < n → reads_of (graph_in nodes n) k ≡ wire_reads (wire_at nodes k 0) ++ wire_reads (wire_at nodes k 1)
-  unfolding graph_in wire_at
+  -- the nodes that so many wires read, from a position on
+  unfoldable pub reads_from : ℕ → ℕ → ℕ → List ℕ
+  reads_from k position zero = []
+  reads_from k position (suc m) = wire_reads (wire_at nodes k position) ++ reads_from k (suc position) m
+
+  pub reads_is : (k : ℕ) → k < n → reads_of (graph_in nodes n) k ≡ reads_from k 0 READS
+  unfolding graph_in wire_at reads_from
   reads_is k h =
       reads_at (nodes_of nodes n) k ∙ ap (λ (z : BoolNode). nodes_read (wires_of z)) (node_is k h) ∙ ap nodes_read (wires_words nodes k)
       ∙ reads_by (cell_at nodes k) (get_or nodes (9 * k + 1) 0) (get_or nodes (9 * k + 7 + 0) 0) (get_or nodes (9 * k + 7 + 1) 0)
+      ∙ ap (λ (l : List ℕ). wire_reads (wire_at nodes k 0) ++ l) (sym (append-nil (wire_reads (wire_at nodes k 1))))
 
   -- what the schedule asks of the records
   pub sound_wired : (os : List BoolWire) → circuit_broken (nodes_of nodes n) os ≡ false → Wired nodes n
@@ -125,7 +133,7 @@ module _ (nodes : List ℕ) (n : ℕ) where
           rw (size, node_is k h, wires_words nodes k) at
           (or_parts (record_broken (get_or (nodes_of nodes n) k no_node)) (some_not_below (length (nodes_of nodes n)) (wires_of (get_or (nodes_of nodes n) k no_node))) none).1
 
-      go : (p : ℕ) → p < 2 → wire_at nodes k p < n + 2
+      go : (p : ℕ) → p < READS → wire_at nodes k p < n + 2
       go zero g = first_below n (cell_at nodes k) (get_or nodes (9 * k + 1) 0) (get_or nodes (9 * k + 7 + 0) 0) (get_or nodes (9 * k + 7 + 1) 0) inside
       go (suc zero) g = second_below n (cell_at nodes k) (get_or nodes (9 * k + 1) 0) (get_or nodes (9 * k + 7 + 0) 0) (get_or nodes (9 * k + 7 + 1) 0) inside
       go (suc (suc p)) g = absurd (omega arith)

@@ -2,18 +2,21 @@
 -- Assumes nothing.
 use Prim.Native.Nat.{ℕ, zero, suc, ◌+◌, ◌-◌, ◌*◌, ◌/◌, ◌%◌, ◌≤◌, ◌<◌}
 use mathlib.Core.Path.{◌≡◌, refl, sym, ap, ◌∙◌}
-use mathlib.Core.Bool.{Bool, true, false, not, cond, ◌&&◌}
-use mathlib.Core.List.{List, [], ◌++◌, append-nil}
+use mathlib.Core.Bool.{Bool, true, false, cond}
+use mathlib.Core.List.{List, [], ◌∷◌, ◌++◌}
+use Rattle.std.proofs.lemmas.List.Elements.{filter-append}
 use native.Mathlib.Omega.{arith}
 use lib.Dec.{eqb}
 use lib.ListN.{get_or}
-use Rattle.circuit.specs.Graph.{is_cell, reads_of, waits, free, ready}
+use Rattle.graphs.specs.Graph.{is_cell}
+use Rattle.ordering.specs.declared.reads.TheConstants.{READS}
+use Rattle.std.specs.List.{filter}
 use Rattle.schedule.specs.Call.{graph_in}
-use Rattle.schedule.proofs.Records.{wire_reads, length_in, cell-is, reads_is}
-use Rattle.schedule.specs.Areas.{cell_at, wire_at, Wired, only_cell, source_of, one, both, word_passes, reading, Sourced}
-use Rattle.std.proofs.lemmas.Bool.{false_from_ne_true, true_from_ne_false}
-use Rattle.laws.proofs.Tests.{clash}
-use Rattle.circuit.proofs.Graph.{cell_below, waits-cell}
+use Rattle.schedule.proofs.Records.{wire_reads, reads_from, length_in, cell-is, reads_is}
+use Rattle.schedule.specs.Records.{cell_at, wire_at, Wired, only_cell, source_of}
+use Rattle.ordering.specs.Areas.{with_source, sources, Sourced}
+use Rattle.std.proofs.lemmas.Bool.{true_from_ne_false}
+use Rattle.graphs.proofs.Graph.{cell_below}
 
 module _ (nodes : List ℕ) (n : ℕ) where
   cell_of : (k : ℕ) → is_cell (graph_in nodes n) k ≡ true → cell_at nodes k ≡ true
@@ -36,61 +39,37 @@ module _ (nodes : List ℕ) (n : ℕ) where
   unfolding wire_at
   wire_cell k position e = rw e
 
-  pub source_reader : (e x : ℕ) → source_of nodes e ≡ suc x → cell_at nodes ((e - 1) / 2) ≡ true
+  pub source_reader : (e x : ℕ) → source_of nodes e ≡ suc x → cell_at nodes ((e - 1) / READS) ≡ true
   unfolding source_of
   source_reader e x h =
-      true_from_ne_false (cell_at nodes ((e - 1) / 2)) (λ z. omega (arith, rw (wire_cell ((e - 1) / 2) ((e - 1) % 2) z) at h))
-
-  not-cell : (taken : List ℕ) (x : ℕ) → eqb (get_or nodes (9 * x) 0) 2 ≡ false → waits (graph_in nodes n) taken x ≡ false
-  unfolding cell_at
-  not-cell taken x e = false_from_ne_true (waits (graph_in nodes n) taken x) (λ w. clash (cell_of x (waits-cell (graph_in nodes n) taken x w)) e)
-
-  -- a wire of a cell: what it leaves to wait for
-  wire_free : (taken : List ℕ) (w : ℕ) (l : List ℕ) → free (graph_in nodes n) taken (wire_reads w ++ l) ≡ not (word_passes (waits (graph_in nodes n) taken) (only_cell nodes w)) && free (graph_in nodes n) taken l
-  unfolding free
-  wire_free taken zero l = refl
-  wire_free taken (suc zero) l = refl
-  wire_free taken (suc (suc x)) l = go (eqb (get_or nodes (9 * x) 0) 2) refl
-    where
-      go : (t : Bool) → eqb (get_or nodes (9 * x) 0) 2 ≡ t → not (waits (graph_in nodes n) taken x) && free (graph_in nodes n) taken l ≡ not (word_passes (waits (graph_in nodes n) taken) (cond (eqb (get_or nodes (9 * x) 0) 2) (suc x) 0)) && free (graph_in nodes n) taken l
-      go true q = rw q
-      go false q = rw (q, not-cell taken x q)
-
-  source_at : (e k position : ℕ) → (e - 1) / 2 ≡ k → (e - 1) % 2 ≡ position → source_of nodes e ≡ only_cell nodes (wire_at nodes k position)
-  unfolding source_of
-  source_at e k position p q = rw (p, q)
-
-  tally : (a b : Bool) → not a && (not b && true) ≡ eqb (one a + one b) 0
-  tally true true = refl
-  tally true false = refl
-  tally false true = refl
-  tally false false = refl
-
-  both-free : (taken : List ℕ) (q : ℕ) → q < n → free (graph_in nodes n) taken (reads_of (graph_in nodes n) q) ≡ eqb (both (reading (source_of nodes) (waits (graph_in nodes n) taken)) q) 0
-  unfolding both reading free
-  both-free taken q h =
-      rw (reads_is nodes n q h, ← (append-nil (wire_reads (wire_at nodes q 1))), wire_free taken (wire_at nodes q 0) (wire_reads (wire_at nodes q 1) ++ []), wire_free taken (wire_at nodes q 1) [], source_at (2 * q + 1) q 0 (omega arith) (omega arith), source_at (2 * q + 2) q 1 (omega arith) (omega arith))
-      (tally (word_passes (waits (graph_in nodes n) taken) (only_cell nodes (wire_at nodes q 0))) (word_passes (waits (graph_in nodes n) taken) (only_cell nodes (wire_at nodes q 1))))
+      true_from_ne_false (cell_at nodes ((e - 1) / READS)) (λ z. omega (arith, rw (wire_cell ((e - 1) / READS) ((e - 1) % READS) z) at h))
 
   module _ (wired : Wired nodes n) where
-    source_below : (e x : ℕ) → 1 ≤ e → e ≤ 2 * n → source_of nodes e ≡ suc x → x < n
-    unfolding source_of
-    source_below e x a b h =
-        let w = only_inverse (wire_at nodes ((e - 1) / 2) ((e - 1) % 2)) x h in
-        omega (arith, wired ((e - 1) / 2) ((e - 1) % 2) (omega arith) (omega arith), w.0)
-
-    pub source_le : (e : ℕ) → 1 ≤ e → e ≤ 2 * n → source_of nodes e ≤ n
-    source_le e a b = go (source_of nodes e) refl
+    -- a wire's read of a cell
+    wire-source : (w : ℕ) (xs : List ℕ) → w < n + 2 → with_source (only_cell nodes w) xs ≡ filter (is_cell (graph_in nodes n)) (wire_reads w) ++ xs
+    unfolding cell_at
+    wire-source zero xs h = refl
+    wire-source (suc zero) xs h = refl
+    wire-source (suc (suc x)) xs h = rw (cell-is nodes n x (omega arith)) (go (eqb (get_or nodes (9 * x) 0) 2))
       where
-        go : (k : ℕ) → source_of nodes e ≡ k → source_of nodes e ≤ n
-        go zero q = omega arith
-        go (suc x) q = omega (arith, source_below e x a b q)
+        go : (t : Bool) → with_source (cond t (suc x) 0) xs ≡ cond t (x ∷ []) [] ++ xs
+        go true = refl
+        go false = refl
+
+    -- the reads of the wires from a position on
+    sources-from : (q position m e : ℕ) → q < n → position + m ≤ READS → e ≡ READS * q + 1 + position → sources (source_of nodes) e m ≡ filter (is_cell (graph_in nodes n)) (reads_from nodes n q position m)
+    unfolding sources source_of reads_from
+    sources-from q position zero e h l s = refl
+    sources-from q position (suc m) e h l s =
+        let k : (e - 1) / READS ≡ q = omega arith in
+        let p : (e - 1) % READS ≡ position = omega arith in
+        rw (k, p) (wire-source (wire_at nodes q position) (sources (source_of nodes) (suc e) m) (wired q position h (omega arith)))
+        ∙ ap (λ (l : List ℕ). filter (is_cell (graph_in nodes n)) (wire_reads (wire_at nodes q position)) ++ l) (sources-from q (suc position) m (suc e) h (omega arith) (omega arith))
+        ∙ sym (filter-append (is_cell (graph_in nodes n)) (wire_reads (wire_at nodes q position)) (reads_from nodes n q (suc position) m))
 
     pub sourced : Sourced (source_of nodes) (graph_in nodes n)
-    unfolding ready source_of
     sourced =
         record {
-          reader = λ e x a b h. cell-is nodes n ((e - 1) / 2) (omega (arith, length_in nodes n)) ∙ source_reader e x h;
-          source = λ e x a b h. cell-is nodes n x (source_below e x a (omega (arith, length_in nodes n)) h) ∙ (only_inverse (wire_at nodes ((e - 1) / 2) ((e - 1) % 2)) x h).1;
-          counts = λ taken q h. ap (λ (t : Bool). waits (graph_in nodes n) taken q && t) (both-free taken q (omega (arith, length_in nodes n)));
+          reader = λ e x a b h. cell-is nodes n ((e - 1) / READS) (omega (arith, length_in nodes n)) ∙ source_reader e x h;
+          sources_are = λ q h. sources-from q 0 READS (READS * q + 1) (omega (arith, length_in nodes n)) (omega arith) (omega arith) ∙ ap (filter (is_cell (graph_in nodes n))) (sym (reads_is nodes n q (omega (arith, length_in nodes n))));
         }

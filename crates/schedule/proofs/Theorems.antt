@@ -1,12 +1,13 @@
 -- The promises of specs/Promises, proved of every circuit; and that a circuit which passes `validate_topological` is not broken.
 -- Assumes nothing.
 use Rattle.std.specs.Prelude.{Err, Ok}
-use Prim.Native.Nat.{ℕ, suc, ◌/◌, ◌≤◌, ◌<◌}
+use Prim.Native.Nat.{ℕ, suc, ◌-◌, ◌*◌, ◌/◌, ◌≤◌, ◌<◌}
 use mathlib.Core.Path.{◌≡◌, refl, sym, ap, ◌∙◌}
 use mathlib.Core.Bool.{Bool, true, false, not}
-use mathlib.Core.List.{List, [], ◌∷◌}
+use mathlib.Core.List.{List, [], ◌∷◌, ◌++◌}
 use native.Mathlib.Omega.{arith}
-use lib.ListN.{length, get_or}
+use borrow.Author.Tests.{eq-eqb}
+use lib.ListN.{length, get_or, replicate}
 use Rattle.std.proofs.lemmas.Bool.{false_from_ne_true}
 use Rattle.laws.specs.Lists.{some}
 use Rattle.circuit.specs.declared.refusals.Refusal.TheVariants.{Broken, Circle as InCircle}
@@ -15,17 +16,19 @@ use Rattle.circuit.specs.declared.records.BoolWire.{BoolWire}
 use Rattle.circuit.specs.Refusals.{refuse_if}
 use Rattle.circuit.specs.Records.{no_node}
 use Rattle.circuit.specs.Check.{node_broken, circuit_broken, check_circuit, whole, nodes_in, wires_in, topological_fault, records_fault}
-use Rattle.circuit.specs.Graph.{cells_of, Circle, Forward, ListsAll}
+use Rattle.graphs.specs.Graph.{cells_of, Circle, Forward, ListsAll}
 use Rattle.circuit.proofs.Checks.{no_fault, not_refused, Sounds, circuit-sound}
 use Rattle.circuit.proofs.Circuits.{checked_forward}
-use Rattle.circuit.proofs.Graph.{forward_no_circle}
-use Rattle.schedule.specs.Schedule.{key_at}
-use Rattle.schedule.specs.Call.{graph_in, order_in, leaves_out, call_fault, circle_fault, schedule_fault}
-use Rattle.schedule.specs.Promises.{Ordering, Promised}
-use Rattle.schedule.proofs.Order.{schedule_in_order, no_circle_count}
-use Rattle.schedule.proofs.WindowOne.{window_one}
-use Rattle.schedule.proofs.Greatest.{next-best}
-use Rattle.schedule.proofs.Complete.{out_circle, circle_out, none_out}
+use Rattle.graphs.proofs.Graph.{forward_no_circle}
+use Rattle.ordering.specs.Schedule.{key_at}
+use Rattle.schedule.specs.Call.{graph_in, order_in, room, call_fault, circle_fault, schedule_fault, leaves, schedule_call}
+use Rattle.ordering.specs.Promises.{leaves_out}
+use Rattle.ordering.specs.Promises.{Ordering}
+use Rattle.schedule.specs.Promises.{Promised, stored_cells}
+use Rattle.ordering.proofs.Order.{schedule_in_order, no_circle_count}
+use Rattle.ordering.proofs.WindowOne.{window_one}
+use Rattle.ordering.proofs.Greatest.{next-best}
+use Rattle.ordering.proofs.Complete.{out_circle, circle_out, none_out}
 use Rattle.schedule.proofs.Call.{orderable}
 
 -- what `validate_topological` accepts has no 15
@@ -123,3 +126,16 @@ module _ (nodes outputs : List ℕ) (window : ℕ) (keys : List ℕ) (ready succ
         validated = λ valid. accepts (forward_no_circle (graph_in nodes (length nodes / 9)) (validated_forward nodes outputs valid));
         storage = stored;
       }
+
+-- window 1: the whole call
+
+module _ (nodes outputs keys ready successors order : List ℕ) (valid : topological_fault nodes outputs ≡ Ok tt) (one_key : length keys ≡ 3 * (length nodes / 9)) (long : room (length nodes / 9) (length ready) (length successors) (length order) ≡ true) where
+  passed-one : call_fault nodes outputs 1 keys (length ready) (length successors) (length order) ≡ Ok tt
+  unfolding call_fault
+  passed-one = rw (validated_records nodes outputs valid, eq-eqb (length keys) (3 * (length nodes / 9)) one_key, long)
+
+  pub stored-one : schedule_call nodes outputs 1 keys ready successors order ≡ leaves (Ok (length (stored_cells nodes))) (replicate (length ready) 0) (replicate (length successors) 0) (stored_cells nodes ++ replicate (length order - length (stored_cells nodes)) 0)
+  unfolding schedule_call
+  stored-one =
+      let p = promised nodes outputs 1 keys (length ready) (length successors) (length order) passed-one in
+      rw (p.validated valid, p.storage valid refl)

@@ -1,13 +1,15 @@
 -- The call: its answer, and what every lent area holds after it.
 -- Assumes nothing.
 use Rattle.std.specs.Prelude.{ℕ, ◌+◌, ◌-◌, ◌*◌, ◌/◌, Bool, not, ◌&&◌, List, ◌++◌, eqb, leb, length, replicate, Err, Ok}
-use Rattle.laws.specs.Lists.{elem, some}
 use Rattle.circuit.specs.declared.refusals.Refusal.TheVariants.{NoWindow, WrongValues, NoRoom, Circle}
 use Rattle.circuit.specs.Refusals.{Try, Checked, refuse_if, first_fault, check_then}
 use Rattle.circuit.specs.Records.{nodes_of}
 use Rattle.circuit.specs.Check.{records_fault}
-use Rattle.circuit.specs.Graph.{Vertex, graph_of, cells_of}
-use Rattle.schedule.specs.Schedule.{key_at, schedule_of}
+use Rattle.graphs.specs.Graph.{Vertex, cells_of}
+use Rattle.circuit.specs.Graph.{graph_of}
+use Rattle.ordering.specs.declared.reads.TheConstants.{READS}
+use Rattle.ordering.specs.Schedule.{key_at, schedule_of}
+use Rattle.ordering.specs.Promises.{leaves_out}
 
 -- the number of cells that an answer gives: 0 on a refusal
 abbrev pub ordered_cells : Try ℕ → ℕ
@@ -24,11 +26,7 @@ order_in nodes n window keys = schedule_of (graph_in nodes n) window (key_at key
 
 -- "Areas: ready and order one record per node each, successors 2 × nodes + 1": a ready record has three words
 unfoldable pub room : ℕ → ℕ → ℕ → ℕ → Bool
-room n ready successors order = leb (3 * n) ready && (leb (2 * n + 1) successors && leb n order)
-
--- some cell is not in the list
-unfoldable pub leaves_out : List ℕ → List ℕ → Bool
-leaves_out order cells = some (λ k. not (elem k order)) cells
+room n ready successors order = leb (3 * n) ready && (leb (READS * n + 1) successors && leb n order)
 
 -- "Checks: 15, 18, 19, 3": before anything is ordered, the areas by their sizes
 unfoldable pub call_fault : List ℕ → List ℕ → ℕ → List ℕ → ℕ → ℕ → ℕ → Checked

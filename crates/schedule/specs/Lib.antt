@@ -1,7 +1,3 @@
-pub mod Schedule
+pub mod Records
 pub mod Call
 pub mod Promises
-pub mod Areas
-pub mod Tree
-pub mod Taking
-pub mod Members

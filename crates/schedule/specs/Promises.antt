@@ -1,26 +1,12 @@
 -- What is promised of the order, in the graph's terms, of every circuit for which 15, 18, 19 and 3 do not refuse.
 -- Assumes nothing.
-use Rattle.std.specs.Prelude.{ℕ, ◌/◌, ◌≤◌, ◌≡◌, true, false, List, length, take, Err, Ok}
-use Rattle.std.proofs.Math.Option.{some}
-use Rattle.laws.specs.Lists.{elem}
+use Rattle.std.specs.Prelude.{◌-◌, ◌*◌, ◌++◌, true, replicate, ℕ, ◌/◌, ◌≡◌, List, length, Err, Ok}
 use Rattle.circuit.specs.declared.refusals.Refusal.TheVariants.{Circle as InCircle}
 use Rattle.circuit.specs.Check.{topological_fault}
-use Rattle.circuit.specs.Graph.{Vertex, cells_of, ready_cells, Circle, InOrder, ListsAll}
-use Rattle.schedule.specs.Schedule.{Key, key_at, above, next}
-use Rattle.schedule.specs.Call.{graph_in, order_in, schedule_fault}
-
--- of a list the number of the greatest key, "on equal keys the smallest number"
-pub record Best (key : ℕ → Key) (l : List ℕ) (p : ℕ) : Type 0 where
-  pub among : elem p l ≡ true
-  pub greatest : (k : ℕ) → elem k l ≡ true → above (key k) (key p) ≡ false
-  pub smallest : (k : ℕ) → elem k l ≡ true → above (key p) (key k) ≡ false → p ≤ k
-
--- over the graph c and its order
-pub record Ordering (c : List Vertex) (window : ℕ) (key : ℕ → Key) (order : List ℕ) : Type 0 where
-  -- only cells, none twice, each after every cell that it reads
-  pub in_order : InOrder c order
-  -- "among the min(window, ready) smallest ready node numbers, the greatest key"
-  pub picks : (taken : List ℕ) (p : ℕ) → next c window key taken ≡ some p → Best key (take window (ready_cells c taken)) p
+use Rattle.graphs.specs.Graph.{cells_of, Circle, ListsAll}
+use Rattle.ordering.specs.Schedule.{key_at}
+use Rattle.ordering.specs.Promises.{Ordering}
+use Rattle.schedule.specs.Call.{graph_in, order_in, room, call_fault, schedule_fault, leaves, schedule_call}
 
 -- "17 exactly if some cells read in a circle (one reading itself counts); a forward read alone is accepted"
 pub record Promised (nodes outputs : List ℕ) (window : ℕ) (keys : List ℕ) (ready successors order : ℕ) : Type 0 where
@@ -34,3 +20,21 @@ pub record Promised (nodes outputs : List ℕ) (window : ℕ) (keys : List ℕ) 
   -- a circuit that passes `validate_topological` is always ordered; with window 1 in storage order
   pub validated : topological_fault nodes outputs ≡ Ok tt → schedule_fault nodes outputs window keys ready successors order ≡ Ok tt
   pub storage : topological_fault nodes outputs ≡ Ok tt → window ≡ 1 → order_in nodes (length nodes / 9) window keys ≡ cells_of (graph_in nodes (length nodes / 9))
+
+-- the same of every call that 15, 18, 19 and 3 do not refuse
+abbrev pub SchedulePromised : Type 0
+SchedulePromised =
+    (nodes outputs : List ℕ) (window : ℕ) (keys : List ℕ) (ready successors order : ℕ)
+    → call_fault nodes outputs window keys ready successors order ≡ Ok tt → Promised nodes outputs window keys ready successors order
+
+-- every cell of the records, in storage order
+abbrev pub stored_cells : List ℕ → List ℕ
+stored_cells nodes = cells_of (graph_in nodes (length nodes / 9))
+
+-- "for every circuit that the circuit check accepts, with one key per node and areas long enough, window 1 gives the cells in storage order for all keys"
+abbrev pub StoredAtWindowOne : Type 0
+StoredAtWindowOne =
+    (nodes outputs keys ready successors order : List ℕ) → topological_fault nodes outputs ≡ Ok tt → length keys ≡ 3 * (length nodes / 9)
+    → room (length nodes / 9) (length ready) (length successors) (length order) ≡ true
+    → schedule_call nodes outputs 1 keys ready successors order
+    ≡ leaves (Ok (length (stored_cells nodes))) (replicate (length ready) 0) (replicate (length successors) 0) (stored_cells nodes ++ replicate (length order - length (stored_cells nodes)) 0)

@@ -5,20 +5,13 @@
 ghost use Rattle.std.specs.Prelude.{◌≡◌};
 ghost use Rattle.schedule.specs.Call.{leaves, schedule_call};
 
-use crate::ordering::{call_fault, order_or_circle};
+use crate::checks::{call_fault, order_or_circle};
 use circuit::areas::clear_all;
 use circuit::refusals::Refusal;
 
-pub mod keys;
-pub mod members;
-pub mod ordering;
-pub mod picking;
+pub mod checks;
+pub mod promised;
 pub mod reads;
-pub mod releasing;
-pub mod taking;
-pub mod tree;
-pub mod waiting;
-pub mod window;
 
 // The order of the cells in the first records of `order`, and how many they are; 15, 18, 19, 3, 17.
 // Nodes and outputs come as two slices, and the areas one by one, as the C interface lends them.

@@ -9,7 +9,8 @@ use Rattle.laws.specs.Stretches.{stretch, run, same_bytes}
 use Rattle.laws.specs.Sums.{sum}
 use Rattle.circuit.specs.Records.{is_cell_node, wires_of, no_node}
 use Rattle.circuit.specs.Check.{cell_broken, record_broken, check_wires, check_node, check_nodes, check_circuit, node_broken, circuit_broken, whole, topological_fault, records_fault}
-use Rattle.circuit.specs.Graph.{nodes_read, vertex_of, graph_of, outside, is_cell, reads_of, cells_of, waits, free, ready, ready_cells, fit, fit_list}
+use Rattle.circuit.specs.Graph.{nodes_read, vertex_of, graph_of}
+use Rattle.graphs.specs.Graph.{outside, is_cell, reads_of, cells_of, waits, free, ready, ready_cells, fit, fit_list}
 use Rattle.text.specs.Bytes.{is_ascii, upper}
 use Rattle.text.specs.Blanks.{is_blank, trim, trim_start, trim_end, trimmed}
 use Rattle.text.specs.Words.{words, split_whitespace}
@@ -31,8 +32,9 @@ use Rattle.bristol_rows.specs.Header.{grouped_wire_count, groups, group_lines, t
 use Rattle.bristol_rows.specs.Operation.{is_alias, inverts, two_input_table, truth_table, operation}
 use Rattle.bristol_rows.specs.Row.{drivers as rowDrivers, row_output, row_wires, row}
 use Rattle.bristol.specs.Bristol.{drive, store_cell, store, row_step, rows, outputs_from as lastWires, start, body, circuit, bristol_circuit}
-use Rattle.schedule.specs.Schedule.{key_at, above, best, pick, next, schedule_from, schedule_of}
-use Rattle.schedule.specs.Call.{graph_in, order_in, room, leaves_out, call_fault, circle_fault, schedule_fault, schedule_call}
+use Rattle.ordering.specs.Schedule.{key_at, above, best, pick, next, schedule_from, schedule_of}
+use Rattle.schedule.specs.Call.{graph_in, order_in, room, call_fault, circle_fault, schedule_fault, schedule_call}
+use Rattle.ordering.specs.Promises.{leaves_out}
 use Rattle.runs.specs.Values.{answer_of, values_from, outputs_from, storage_values, storage_outputs}
 use Rattle.runs.specs.Runs.{put_in, step, steps, run_store, run_outputs, input_count, wrong_assignment}
 use Rattle.runs.specs.Calls.{assignment_fault, order_fault, room_fault, run_fault, leaves, run_call}

@@ -1,0 +1,3 @@
+// Graphs of cells that read nodes: laws alone; see specs/ for the definitions and proofs/ for the laws.
+
+#![tactic(auto)]

@@ -1,0 +1,13 @@
+use Prim.Native.Nat.{◌≤◌, ◌-◌}
+use mathlib.Core.Path.{◌≡◌}
+use mathlib.Core.List.{[]}
+use lib.ListN.{length, drop}
+use Rattle.ordering.specs.Areas.{Counted}
+use Rattle.ordering.specs.Taking.{Took}
+use Rattle.ordering.proofs.taking.take_first.Given as goal
+
+abbrev pub invariant-loop-cells : goal.invariant-loop-cells
+invariant-loop-cells l = Took l.initial.area l.next [] l.count 1 l.taken l.order l.area × (l.taken ≤ length l.order) × (length l.order ≡ length l.initial.order) × (length l.area ≡ length l.initial.area) × (drop l.taken l.order ≡ drop l.taken l.initial.order) × Counted l.count l.area l.cells
+
+abbrev pub decreases-loop-cells : goal.decreases-loop-cells
+decreases-loop-cells l = l.count - l.taken

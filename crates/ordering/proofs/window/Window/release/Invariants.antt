@@ -1,0 +1,11 @@
+use mathlib.Core.Path.{◌≡◌}
+use lib.ListN.{length}
+use Rattle.ordering.specs.Tree.{Tracked}
+use Rattle.ordering.proofs.Freeing.{Descended}
+use Rattle.ordering.proofs.window.Window.release.Given as goal
+
+abbrev pub invariant-loop-edge : goal.invariant-loop-edge
+invariant-loop-edge l = Descended l.count l.next l.node l.initial.area l.initial.edge l.area l.edge × (length l.area ≡ length l.initial.area) × Tracked l.count l.keys l.area l.at × (l.at.limit ≡ l.initial.at.limit)
+
+abbrev pub decreases-loop-edge : goal.decreases-loop-edge
+decreases-loop-edge l = l.edge

@@ -1,0 +1,4 @@
+pub mod Definitions
+pub mod Placing
+pub mod Promises
+pub mod Resolved

@@ -1,9 +1,0 @@
-use Prim.Native.Nat.{◌-◌, ◌*◌, ◌+◌}
-use Rattle.schedule.proofs.Leaf.{Scanned}
-use Rattle.schedule.proofs.tree.leaf.Given as goal
-
-abbrev pub invariant-loop-rest : goal.invariant-loop-rest
-invariant-loop-rest l = Scanned l.ready l.keys l.limit l.w l.best l.i l.rest
-
-abbrev pub decreases-loop-rest : goal.decreases-loop-rest
-decreases-loop-rest l = 64 * l.w + 64 - l.i

@@ -1,5 +1,0 @@
-use Rattle.schedule.specs.Tree.{LeavesPut}
-use Rattle.schedule.proofs.tree.put_leaves.Given as goal
-
-abbrev pub invariant-loop-w : goal.invariant-loop-w
-invariant-loop-w l = LeavesPut l.count l.limit l.keys l.initial.area l.w l.area
