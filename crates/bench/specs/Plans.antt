@@ -1,14 +1,15 @@
 -- What the code notes of a line before it adds anything, and what it leaves.
 -- Assumes nothing.
-use Rattle.std.specs.Prelude.{ℕ, ◌+◌, ◌≤◌, ◌≡◌, true, List, length, Ok, IfOk}
+use Rattle.std.specs.Prelude.{ℕ, ◌+◌, ◌≤◌, ◌≡◌, true, List, length, Err, Ok, IfOk}
 use mathlib.Core.Path.{refl}
 use Rattle.circuit.specs.Refusals.{Try, and_then}
 use Rattle.text.specs.Lines.{lines}
 use Rattle.text.specs.declared.words.Word.{Word}
 use Rattle.names.specs.Names.{Entry}
+use Rattle.names.specs.Chains.{Table}
 use Rattle.reading.specs.Reading.{Places, State, start, each, finish}
 use Rattle.reading.specs.declared.records.Reading.{Reading}
-use Rattle.reading.specs.Holding.{outcome, Kept, KeptForSome, WordsKept}
+use Rattle.reading.specs.Holding.{outcome, NodesHold, WordsHold, AreasHold}
 use Rattle.bench_invocations.specs.Invocations.{arguments_of}
 use Rattle.bench_gates.specs.declared.plans.Plan.{Plan}
 use Rattle.bench_gates.specs.Gates.{input_wires}
@@ -40,15 +41,10 @@ pub record NamedIs (t : List ℕ) (r : Try Named) (d : Try Declared) : Type 0 wh
   pub is : outcome declared_as r ≡ d
   pub inside : IfOk r (λ n. n.name.start + n.name.len ≤ length t)
 
--- the areas are in order, for what has been read
-pub record ReadKept (t heads ns ms os : List ℕ) (r : Reading) : Type 0 where
-  pub kept : Kept t heads ns ms r.counts
-  pub words : WordsKept t os r.outputs
-
--- as a refusal leaves them: the outputs as they were
-pub record RefusedKept (t heads ns ms os : List ℕ) (r : Reading) : Type 0 where
-  pub kept : KeptForSome t heads ns ms
-  pub words : WordsKept t os r.outputs
+-- the areas hold as much as a line answers; on a refusal some nodes and names, and the output words as they were
+abbrev pub AreasHoldAfterLine : List ℕ → List ℕ → List ℕ → List ℕ → List ℕ → Reading → Try Reading → Type 0
+AreasHoldAfterLine t heads ns ms os read (Ok r) = AreasHold t heads ns ms os r
+AreasHoldAfterLine t heads ns ms os read (Err e) = ((n : ℕ) × NodesHold ns n) × ((m : ℕ) × Table t heads ms m) × WordsHold t os read.outputs
 
 -- what the lines of a text add to nothing, one after the other; the circuit is what they give, once the outputs have their wires
 abbrev pub bench_reads : List ℕ → Places → Try State

@@ -1,9 +1,8 @@
 // A line without `=`: a declaration.
-ghost use Rattle.std.specs.Prelude.{◌≡◌, ◌+◌, ◌≤◌, length, IfOk, OnErr};
-ghost use Rattle.reading.specs.Reading.{places_in};
-ghost use Rattle.reading.specs.Holding.{outcome, state_of};
+ghost use Rattle.std.specs.Prelude.{◌≡◌, ◌+◌, ◌≤◌, length};
+ghost use Rattle.reading.specs.Holding.{AreasHold, StateStep};
 ghost use Rattle.bench.specs.Bench.{declaration_of, declared_in, declare, declaration_line};
-ghost use Rattle.bench.specs.Plans.{NamedIs, ReadKept, RefusedKept};
+ghost use Rattle.bench.specs.Plans.{NamedIs, AreasHoldAfterLine};
 
 use crate::read::Bench;
 use bench_invocations::invocation::parse_bench_invocation;
@@ -69,11 +68,11 @@ pub fn declare_name(
     names: &mut [usize],
     outputs: &mut [usize],
 ) -> Result<Reading, Refusal>
-    requires kept { ReadKept text.now heads.old nodes.old names.old outputs.old read }
-    requires len_in_bounds { named.name.start + named.name.len ≤ length text.now }
-    ensures kept_2 { IfOk result (ReadKept text.now heads.new nodes.new names.new outputs.new) }
-    ensures kept_refused { OnErr result (RefusedKept text.now heads.new nodes.new names.new outputs.new read) }
-    ensures outputs_after { outcome (λ r. state_of nodes.new names.new outputs.new r.counts r.outputs) result ≡ declare text.now (places_in (length nodes.old) (length names.old) (length outputs.old)) named.declaration named.name (state_of nodes.old names.old outputs.old read.counts read.outputs) }
+    requires areas { AreasHold text.now heads.old nodes.old names.old outputs.old read }
+    requires name_in_text { named.name.start + named.name.len ≤ length text.now }
+    ensures areas { AreasHoldAfterLine text.now heads.new nodes.new names.new outputs.new read result }
+    ensures step { StateStep (λ p. declare text.now p named.declaration named.name)
+        nodes.old names.old outputs.old read nodes.new names.new outputs.new result }
 {
     match named.declaration {
         Declaration::Input => {
@@ -98,11 +97,11 @@ pub fn declaration_line(
     names: &mut [usize],
     outputs: &mut [usize],
 ) -> Result<Reading, Refusal>
-    requires kept { ReadKept text.now heads.old nodes.old names.old outputs.old read }
-    requires line_in_bounds { line.start + line.len ≤ length text.now }
-    ensures kept_2 { IfOk result (ReadKept text.now heads.new nodes.new names.new outputs.new) }
-    ensures kept_refused { OnErr result (RefusedKept text.now heads.new nodes.new names.new outputs.new read) }
-    ensures outputs_after { outcome (λ r. state_of nodes.new names.new outputs.new r.counts r.outputs) result ≡ declaration_line text.now (places_in (length nodes.old) (length names.old) (length outputs.old)) line (state_of nodes.old names.old outputs.old read.counts read.outputs) }
+    requires areas { AreasHold text.now heads.old nodes.old names.old outputs.old read }
+    requires line_in_text { line.start + line.len ≤ length text.now }
+    ensures areas { AreasHoldAfterLine text.now heads.new nodes.new names.new outputs.new read result }
+    ensures step { StateStep (λ p. declaration_line text.now p line)
+        nodes.old names.old outputs.old read nodes.new names.new outputs.new result }
 {
     let named = declared_name(text, line)?;
     declare_name(text, named, read, heads, nodes, names, outputs)

@@ -1,9 +1,7 @@
 // A line with `=`: a gate.
-ghost use Rattle.std.specs.Prelude.{◌≡◌, ℕ, ◌+◌, ◌≤◌, length, IfOk, OnErr};
+ghost use Rattle.std.specs.Prelude.{◌+◌, ◌≤◌, length};
 ghost use Rattle.text.specs.Blanks.{trimmed};
-ghost use Rattle.names.specs.Chains.{entries};
-ghost use Rattle.reading.specs.Reading.{places_in};
-ghost use Rattle.reading.specs.Holding.{outcome, held_of, Kept, KeptForSome};
+ghost use Rattle.reading.specs.Holding.{entries_of, NamedNodesHold, NamedNodesHoldAfter, HeldStep};
 ghost use Rattle.bench_invocations.specs.Walks.{invoked, NotedIn};
 ghost use Rattle.bench.specs.Bench.{gate_invoked, gate_of, gate_line};
 ghost use Rattle.bench.specs.Plans.{PlanIs};
@@ -21,9 +19,11 @@ use text::words::{Word, trim};
 // A gate with a new output and its invocation: 5.
 #[tactic(auto, using(crate::proofs::Planning::plan_refused, crate::proofs::Planning::inputs_refused, crate::proofs::Planning::plan_made))]
 pub fn plan_inputs(table: &NameTable, out: Word, invocation: Invocation) -> Result<Plan, Refusal>
-    requires out_in_bounds { out.start + out.len ≤ length table.now.text.now }
+    requires out_in_text { out.start + out.len ≤ length table.now.text.now }
     requires noted { NotedIn table.now.text.now invocation }
-    ensures { PlanIs table.now.text.now (entries table.now.names.now table.now.count) out result (gate_invoked table.now.text.now (entries table.now.names.now table.now.count) (invoked table.now.text.now invocation)) }
+    ensures { let t = table.now.text.now in
+        let es = entries_of table.now in
+        PlanIs t es out result (gate_invoked t es (invoked t invocation)) }
 {
     let wires = input_wires(table, invocation.inside)?;
     Ok(Plan {
@@ -38,9 +38,11 @@ pub fn plan_inputs(table: &NameTable, out: Word, invocation: Invocation) -> Resu
 // What stands before the first `=` of a line, and what stands after it: 9, 4, 9, 5.
 #[tactic(auto, using(crate::proofs::Planning::plan_refused, crate::proofs::Planning::no_output, crate::proofs::Planning::known_output, crate::proofs::Planning::new_output))]
 pub fn plan_gate(table: &NameTable, before: Word, after: Word) -> Result<Plan, Refusal>
-    requires before_in_bounds { before.start + before.len ≤ length table.now.text.now }
-    requires after_in_bounds { after.start + after.len ≤ length table.now.text.now }
-    ensures { PlanIs table.now.text.now (entries table.now.names.now table.now.count) (trimmed table.now.text.now before) result (gate_of table.now.text.now (trimmed table.now.text.now before) after (entries table.now.names.now table.now.count)) }
+    requires before_in_text { before.start + before.len ≤ length table.now.text.now }
+    requires after_in_text { after.start + after.len ≤ length table.now.text.now }
+    ensures { let t = table.now.text.now in
+        let es = entries_of table.now in
+        PlanIs t es (trimmed t before) result (gate_of t (trimmed t before) after es) }
 {
     let out = trim(table.text, before);
     if out.len == 0 {
@@ -64,12 +66,12 @@ pub fn gate_line(
     nodes: &mut [usize],
     names: &mut [usize],
 ) -> Result<Counts, Refusal>
-    requires kept { Kept text.now heads.old nodes.old names.old counts }
-    requires before_in_bounds { before.start + before.len ≤ length text.now }
-    requires after_in_bounds { after.start + after.len ≤ length text.now }
-    ensures kept_2 { IfOk result (λ c. Kept text.now heads.new nodes.new names.new c) }
-    ensures kept_refused { OnErr result (KeptForSome text.now heads.new nodes.new names.new) }
-    ensures by_index { (l : ℕ) → outcome (λ c. held_of nodes.new names.new c) result ≡ gate_line text.now (places_in (length nodes.old) (length names.old) l) (trimmed text.now before) after (held_of nodes.old names.old counts) }
+    requires areas { NamedNodesHold text.now heads.old nodes.old names.old counts }
+    requires before_in_text { before.start + before.len ≤ length text.now }
+    requires after_in_text { after.start + after.len ≤ length text.now }
+    ensures areas { NamedNodesHoldAfter text.now heads.new nodes.new names.new result }
+    ensures step { HeldStep (λ p. gate_line text.now p (trimmed text.now before) after)
+        nodes.old names.old counts nodes.new names.new result }
 {
     let table = NameTable {
         text,

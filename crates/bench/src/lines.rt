@@ -1,9 +1,8 @@
 // The lines of a joined text.
-ghost use Rattle.std.specs.Prelude.{◌≡◌, ◌+◌, ◌≤◌, length, IfOk, OnErr};
-ghost use Rattle.reading.specs.Reading.{places_in};
-ghost use Rattle.reading.specs.Holding.{outcome, state_of};
+ghost use Rattle.std.specs.Prelude.{◌+◌, ◌≤◌, length};
+ghost use Rattle.reading.specs.Holding.{AreasHold, StateStep};
 ghost use Rattle.bench.specs.Bench.{read_line, bench_lines};
-ghost use Rattle.bench.specs.Plans.{ReadKept, RefusedKept, bench_reads, bench_ends};
+ghost use Rattle.bench.specs.Plans.{AreasHoldAfterLine, bench_reads, bench_ends};
 
 use crate::declarations::declaration_line;
 use crate::gates::gate_line;
@@ -26,11 +25,11 @@ pub fn read_line(
     names: &mut [usize],
     outputs: &mut [usize],
 ) -> Result<Reading, Refusal>
-    requires kept { ReadKept text.now heads.old nodes.old names.old outputs.old read }
-    requires line_in_bounds { line.start + line.len ≤ length text.now }
-    ensures kept_2 { IfOk result (ReadKept text.now heads.new nodes.new names.new outputs.new) }
-    ensures kept_refused { OnErr result (RefusedKept text.now heads.new nodes.new names.new outputs.new read) }
-    ensures outputs_after { outcome (λ r. state_of nodes.new names.new outputs.new r.counts r.outputs) result ≡ read_line text.now (places_in (length nodes.old) (length names.old) (length outputs.old)) line (state_of nodes.old names.old outputs.old read.counts read.outputs) }
+    requires areas { AreasHold text.now heads.old nodes.old names.old outputs.old read }
+    requires line_in_text { line.start + line.len ≤ length text.now }
+    ensures areas { AreasHoldAfterLine text.now heads.new nodes.new names.new outputs.new read result }
+    ensures step { StateStep (λ p. read_line text.now p line)
+        nodes.old names.old outputs.old read nodes.new names.new outputs.new result }
 {
     if let Some(cut) = find_byte(text, b'=', line) {
         let before = Word::between(line.start, cut);

@@ -1,6 +1,6 @@
 // The reader: a text into a circuit, or its refusal.
-ghost use Rattle.std.specs.Prelude.{true, length};
-ghost use Rattle.reading.specs.Areas.{Leaves};
+ghost use Rattle.std.specs.Prelude.{true};
+ghost use Rattle.reading.specs.Areas.{LeavesAreas};
 ghost use Rattle.bench.specs.Bench.{bench};
 
 use bench_gates::inputs;
@@ -29,7 +29,8 @@ pub fn parse_bench(
     names: &mut [usize],
     outputs: &mut [usize],
 ) -> Result<Sizes, Refusal>
-    ensures { Leaves text.now (bench text.now (length joined.old) (length nodes.old) (length names.old) (length outputs.old)) (length joined.old) (length nodes.old) (length names.old) (length outputs.old) result joined.new nodes.new names.new outputs.new }
+    ensures { LeavesAreas text.now (bench text.now) joined.old nodes.old names.old outputs.old
+        result joined.new nodes.new names.new outputs.new }
 {
     parse::<Bench>(text, joined, nodes, names, outputs)
 }

@@ -1,7 +1,7 @@
 -- A chain as the code makes it, wire by wire, is the chain of the definition.
 -- Assumes nothing.
 use Rattle.std.specs.Prelude.{Err, None, Ok, Option, Some, IfOk}
-use Prim.Native.Nat.{ℕ, zero, suc, ◌+◌, ◌^◌, ◌≤◌, ◌<◌}
+use Prim.Native.Nat.{ℕ, zero, suc, ◌+◌, ◌≤◌}
 use mathlib.Core.Path.{◌≡◌, refl, sym, ap, subst, ◌∙◌}
 use mathlib.Core.Bool.{true}
 use mathlib.Core.List.{List, [], ◌∷◌}
@@ -15,15 +15,14 @@ use Rattle.std.proofs.lemmas.Iterator.Adapters.{YieldsList-from_skip}
 use Rattle.laws.specs.Areas.{capacity}
 use Rattle.laws.specs.Stretches.{All}
 use Rattle.circuit.specs.declared.refusals.Refusal.{Refusal}
-use Rattle.circuit.specs.declared.records.BoolWire.{BoolWire}
 use Rattle.circuit.specs.declared.records.BoolNode.{BoolNode}
 use Rattle.circuit.specs.Refusals.{Try, and_then}
-use Rattle.circuit.specs.Records.{wire_of, wire_word, nodes_of}
-use Rattle.circuit.proofs.Codes.{length_nodes, wire_word_back}
+use Rattle.circuit.specs.Records.{nodes_of}
+use Rattle.circuit.proofs.Codes.{length_nodes}
 use Rattle.text.specs.declared.words.Word.{Word}
 use Rattle.names.specs.Names.{Entry}
-use Rattle.reading.specs.Reading.{Places, places_in, Held, find, driver, add_node, add_named}
-use Rattle.reading.specs.Holding.{outcome, NodesKept}
+use Rattle.reading.specs.Reading.{Places, places_in, find, driver, add_node}
+use Rattle.reading.specs.Holding.{outcome, NodesHold}
 use Rattle.bench_invocations.specs.declared.arguments.Arguments.{Arguments}
 use Rattle.bench_invocations.specs.Invocations.{arguments_of}
 use Rattle.bench_invocations.specs.Walks.{arguments_left, GivesArgument}
@@ -31,7 +30,7 @@ use Rattle.bench_invocations.proofs.Inside.{Inside, arguments_given, arguments_i
 use Rattle.bench_gates.specs.declared.plans.Plan.{Plan}
 use Rattle.bench_gates.specs.declared.chains.Chained.{Chained}
 use Rattle.bench_gates.specs.declared.operations.Binary.{Binary}
-use Rattle.bench_gates.specs.Gates.{input_wires, step_cell, last_cell, with_nodes, chain, chained}
+use Rattle.bench_gates.specs.Gates.{input_wires, step_cell, with_nodes, chain, chained}
 use Rattle.bench_gates.specs.Walks.{Driven, chain_words, rest_of, StepsAre}
 use Rattle.bench_gates.proofs.Drivers.{no_inputs, inputs_each, inputs-length, inputs_drop}
 
@@ -39,30 +38,6 @@ use Rattle.bench_gates.proofs.Drivers.{no_inputs, inputs_each, inputs-length, in
 each_then : {A B : Type 0} (r : Try A) (f g : A → Try B) → ((a : A) → f a ≡ g a) → and_then r f ≡ and_then r g
 each_then (Err e) f g h = refl
 each_then (Ok a) f g h = h a
-
--- the areas of names and outputs say nothing to a node and its name
-pub same_places : (n m l : ℕ) (out : Word) (x y : BoolNode) (h : Held) → x ≡ y → add_named (places_in n m 0) out x h ≡ add_named (places_in n m l) out y h
-unfolding add_named
-same_places n m l out x y h e = rw e
-
--- ---- the chain of the wires
-
--- what comes after the count of an area's nodes comes after the nodes
-counted : {B : Type 0} (new : List ℕ) (r : Try ℕ) (f : List BoolNode → Try B) → and_then r (λ n. f (nodes_of new n)) ≡ and_then (outcome (nodes_of new) r) f
-counted new (Ok n) f = refl
-counted new (Err e) f = refl
-
--- three wires: the step of the first two, n nodes being there, then the last cell
-pub triple_chained : (p : Places) (out : Word) (o : Binary) (x y z : ℕ) (ns : List ℕ) (n : ℕ) (es : List Entry) (new : List ℕ) (r : Try ℕ)
-    → outcome (nodes_of new) r ≡ add_node p.nodes (step_cell out o 1 x y) (nodes_of ns n)
-    → and_then r (λ m. add_named p out (last_cell out o (n + 2) z) (with_nodes (nodes_of new m) es)) ≡ chain p out o 1 x (y ∷ z ∷ []) (with_nodes (nodes_of ns n) es)
-triple_chained p out o x y z ns n es new r q =
-    counted new r (λ (ms : List BoolNode). add_named p out (last_cell out o (n + 2) z) (with_nodes ms es))
-    ∙ ap (λ (a : Try (List BoolNode)). and_then a (λ ms. add_named p out (last_cell out o (n + 2) z) (with_nodes ms es))) q
-    ∙ unfolded
-  where
-    unfolded : and_then (add_node p.nodes (step_cell out o 1 x y) (nodes_of ns n)) (λ ms. add_named p out (last_cell out o (n + 2) z) (with_nodes ms es)) ≡ chain p out o 1 x (y ∷ z ∷ []) (with_nodes (nodes_of ns n) es)
-    unfolded = unfold chain in rw (length_nodes ns n)
 
 -- ---- the steps of a gate
 
@@ -132,7 +107,7 @@ pub record Stepping (t : List ℕ) (es : List Entry) (q : Plan) (o : Binary) (wo
   pub coming : List Word
   pub given : Gives s coming
   pub stand : All (Inside t) coming
-  pub kept : NodesKept ns c.nodes
+  pub kept : NodesHold ns c.nodes
   pub same : (m l : ℕ) → rest_of t es q o (places_in words m l) (n + 1) ns c coming ≡ rest_of t es q o (places_in words m l) 1 old first (drop 2 (arguments_of t q.inside))
 
 all_drop : (t : List ℕ) (n : ℕ) (ws : List Word) → All (Inside t) ws → All (Inside t) (drop n ws)
@@ -141,7 +116,7 @@ all_drop t (suc n) [] a = tt
 all_drop t (suc n) (w ∷ ws) a = all_drop t n ws a.1
 
 module _ {t : List ℕ} {es : List Entry} {q : Plan} {o : Binary} {words : ℕ} {old : List ℕ} {first : Chained} where
-  pub stepping_start : Inside t q.inside → NodesKept old first.nodes → (a : Arguments) → arguments_left a ≡ arguments_of t q.inside → (s : Skip Arguments) → skip_source s ≡ a → skip_count s ≡ 2
+  pub stepping_start : Inside t q.inside → NodesHold old first.nodes → (a : Arguments) → arguments_left a ≡ arguments_of t q.inside → (s : Skip Arguments) → skip_source s ≡ a → skip_count s ≡ 2
       → Stepping t es q o words old first s 0 old first
   stepping_start i k a e s f n = record {
     coming = drop 2 (arguments_of t q.inside);
@@ -156,8 +131,7 @@ module _ {t : List ℕ} {es : List Entry} {q : Plan} {o : Binary} {words : ℕ} 
     unfolding chain_words
     stepping_end u p = record {
       are = λ m l. rw (turn_none s u h.coming h.given p) at (h.same m l);
-      kept = h.kept;
-      kept_refused = tt;
+      area = h.kept;
     }
 
     module _ (w : Word) (u : Skip Arguments) (p : steps s (Some w) u) where
@@ -172,23 +146,21 @@ module _ {t : List ℕ} {es : List Entry} {q : Plan} {o : Binary} {words : ℕ} 
           let g = turn s u h.coming w h.given p in
           record {
             are = λ m l. step_stops t es q o (places_in words m l) (n + 1) ns c w g.rest e f ∙ rw g.first at (h.same m l);
-            kept = tt;
-            kept_refused = (c.nodes, h.kept);
+            area = (c.nodes, h.kept);
           }
 
       -- an input with one, and the step before it
       module _ (z : ℕ) (f : Ok z ≡ driver (find true t w es)) (new : List ℕ) where
-        pub stepping_refused : (e : Refusal) → Err e ≡ add_node (capacity 9 words) (step_cell q.out o (n + 1) c.signal c.next) (nodes_of ns c.nodes) → NodesKept new c.nodes → StepsAre t es q o words old first new (Err e)
+        pub stepping_refused : (e : Refusal) → Err e ≡ add_node (capacity 9 words) (step_cell q.out o (n + 1) c.signal c.next) (nodes_of ns c.nodes) → NodesHold new c.nodes → StepsAre t es q o words old first new (Err e)
         stepping_refused e a k =
             let g = turn s u h.coming w h.given p in
             record {
               are = λ m l. step_made t es q o (places_in words m l) (n + 1) ns c w g.rest z f new (Err e) a tt ∙ rw g.first at (h.same m l);
-              kept = tt;
-              kept_refused = (c.nodes, k);
+              area = (c.nodes, k);
             }
 
         pub stepping_on : (d : Chained) → Ok (nodes_of new d.nodes) ≡ add_node (capacity 9 words) (step_cell q.out o (n + 1) c.signal c.next) (nodes_of ns c.nodes)
-            → (d.signal ≡ c.nodes + 2) × (d.next ≡ z) → NodesKept new d.nodes → Stepping t es q o words old first u (n + 1) new d
+            → (d.signal ≡ c.nodes + 2) × (d.next ≡ z) → NodesHold new d.nodes → Stepping t es q o words old first u (n + 1) new d
         stepping_on d a b k =
             let g = turn s u h.coming w h.given p in
             record {

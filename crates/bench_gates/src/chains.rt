@@ -1,10 +1,9 @@
 // A chained gate: all its cells but the last.
-ghost use Rattle.std.specs.Prelude.{◌≡◌, ◌+◌, ◌≤◌, ◌<◌, ◌^◌, length, IfOk, OnErr};
-ghost use Rattle.laws.specs.Areas.{capacity};
-ghost use Rattle.circuit.specs.Records.{wire_word, nodes_of};
-ghost use Rattle.names.specs.Chains.{entries};
+ghost use Rattle.std.specs.Prelude.{◌≡◌, ◌+◌, ◌≤◌, ◌<◌, ◌^◌, length, IfOk};
+ghost use Rattle.std.specs.Result.{result_unwrap_or};
+ghost use Rattle.circuit.specs.Records.{wire_word};
 ghost use Rattle.reading.specs.Reading.{add_node};
-ghost use Rattle.reading.specs.Holding.{outcome, NodesKept};
+ghost use Rattle.reading.specs.Holding.{outcome, entries_of, NodesHold, NodesStep};
 ghost use Rattle.bench_gates.specs.Gates.{cell, step_cell};
 ghost use Rattle.bench_gates.specs.Walks.{StepsAre};
 
@@ -21,7 +20,7 @@ use text::words::Word;
 // A cell. By fields: a constructor would take the same five words by place.
 pub fn bench_lut(name: Name, count: usize, table: usize, x: usize, y: usize) -> BoolNode
     ensures cell_is { result ≡ cell name count table x y }
-    ensures first_bound { (wire_word result.first < 2 ^ 64) × (wire_word result.second < 2 ^ 64) }
+    ensures wires_fit { (wire_word result.first < 2 ^ 64) × (wire_word result.second < 2 ^ 64) }
 {
     BoolNode {
         kind: 2,
@@ -43,10 +42,10 @@ pub fn push_bench_lut(
     count: usize,
     nodes: &mut [usize],
 ) -> Result<usize, Refusal>
-    requires nodes_kept { NodesKept nodes.old count }
-    ensures nodes_kept { IfOk result (λ n. NodesKept nodes.new n) }
-    ensures nodes_refused { OnErr result (NodesKept nodes.new count) }
-    ensures count_after { outcome (λ n. nodes_of nodes.new n) result ≡ add_node (capacity 9 (length nodes.old)) (step_cell out operation step x y) (nodes_of nodes.old count) }
+    requires { NodesHold nodes.old count }
+    ensures area { NodesHold nodes.new (result_unwrap_or result count) }
+    ensures step { NodesStep (λ room. add_node room (step_cell out operation step x y))
+        nodes.old count nodes.new result }
 {
     let name = Name::Step {
         start: out.start,
@@ -74,11 +73,11 @@ pub fn chain_step(
     after: usize,
     nodes: &mut [usize],
 ) -> Result<Chained, Refusal>
-    requires nodes_kept { NodesKept nodes.old chained.nodes }
-    ensures nodes_kept { IfOk result (λ d. NodesKept nodes.new d.nodes) }
-    ensures nodes_refused { OnErr result (NodesKept nodes.new chained.nodes) }
-    ensures nodes_after { outcome (λ d. nodes_of nodes.new d.nodes) result ≡ add_node (capacity 9 (length nodes.old)) (step_cell out operation step chained.signal chained.next) (nodes_of nodes.old chained.nodes) }
-    ensures wires_after { IfOk result (λ d. (d.signal ≡ chained.nodes + 2) × (d.next ≡ after)) }
+    requires { NodesHold nodes.old chained.nodes }
+    ensures area { NodesHold nodes.new (result_unwrap_or result chained).nodes }
+    ensures step { NodesStep (λ room. add_node room (step_cell out operation step chained.signal chained.next))
+        nodes.old chained.nodes nodes.new (outcome (λ d. d.nodes) result) }
+    ensures wires { IfOk result (λ d. (d.signal ≡ chained.nodes + 2) × (d.next ≡ after)) }
 {
     let made = push_bench_lut(
         out,
@@ -105,9 +104,10 @@ pub fn chain_steps(
     first: Chained,
     nodes: &mut [usize],
 ) -> Result<Chained, Refusal>
-    requires nodes_kept { NodesKept nodes.old first.nodes }
-    requires inside_in_bounds { plan.inside.start + plan.inside.len ≤ length table.now.text.now }
-    ensures { StepsAre table.now.text.now (entries table.now.names.now table.now.count) plan operation (length nodes.old) nodes.old first nodes.new result }
+    requires area { NodesHold nodes.old first.nodes }
+    requires inside_in_text { plan.inside.start + plan.inside.len ≤ length table.now.text.now }
+    ensures { StepsAre table.now.text.now (entries_of table.now) plan operation (length nodes.old)
+        nodes.old first nodes.new result }
 {
     let mut chained = first;
     for (k, argument) in arguments_of(table.text, plan.inside).skip(2).enumerate() {

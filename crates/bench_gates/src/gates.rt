@@ -1,13 +1,9 @@
 // A gate whose inputs have drivers: the nodes and the name that it adds.
-ghost use Rattle.std.specs.Prelude.{◌≡◌, ℕ, ◌+◌, ◌≤◌, length, get_or, drop, IfOk, OnErr};
-ghost use Rattle.laws.specs.Areas.{capacity};
-ghost use Rattle.circuit.specs.Refusals.{and_then};
+ghost use Rattle.std.specs.Prelude.{◌+◌, ◌≤◌, length};
+ghost use Rattle.std.specs.Result.{result_unwrap_or};
 ghost use Rattle.names.specs.Chains.{entries, Table};
-ghost use Rattle.reading.specs.Reading.{places_in, add_name, add_named};
-ghost use Rattle.reading.specs.Holding.{outcome, held_of, Kept, KeptForSome};
-ghost use Rattle.bench_gates.specs.Gates.{input_wires, inverter, lower_gate};
-ghost use Rattle.bench_invocations.specs.Invocations.{arguments_of};
-ghost use Rattle.bench_gates.specs.Walks.{Driven, if_one, chain_words};
+ghost use Rattle.reading.specs.Holding.{NamedNodesHold, NamedNodesHoldAfter, NamesStep, HeldStep};
+ghost use Rattle.bench_gates.specs.Walks.{Driven, buffer_planned, inverter_planned, chain_planned, gate_planned};
 
 use crate::chains::{Chained, bench_lut, chain_steps};
 use crate::operations::{Binary, Operation};
@@ -26,10 +22,9 @@ pub fn lower_buffer(
     names: &mut [usize],
 ) -> Result<usize, Refusal>
     requires table { Table text.now heads.old names.old count }
-    requires len_in_bounds { plan.out.start + plan.out.len ≤ length text.now }
-    ensures table_2 { IfOk result (λ n. Table text.now heads.new names.new n) }
-    ensures table_refused { OnErr result (Table text.now heads.new names.new count) }
-    ensures count_after { outcome (λ n. entries names.new n) result ≡ if_one plan.inputs (add_name (capacity 4 (length names.old)) plan.out (get_or plan.wires 0 0) (entries names.old count)) }
+    requires word_in_text { plan.out.start + plan.out.len ≤ length text.now }
+    ensures table { Table text.now heads.new names.new (result_unwrap_or result count) }
+    ensures step { NamesStep (buffer_planned plan) names.old count names.new result }
 {
     if plan.inputs != 1 {
         return Err(Refusal::WrongCount);
@@ -46,11 +41,10 @@ pub fn lower_inverter(
     nodes: &mut [usize],
     names: &mut [usize],
 ) -> Result<Counts, Refusal>
-    requires kept { Kept text.now heads.old nodes.old names.old counts }
-    requires len_in_bounds { plan.out.start + plan.out.len ≤ length text.now }
-    ensures kept_2 { IfOk result (λ c. Kept text.now heads.new nodes.new names.new c) }
-    ensures kept_refused { OnErr result (KeptForSome text.now heads.new nodes.new names.new) }
-    ensures by_index { (l : ℕ) → outcome (λ c. held_of nodes.new names.new c) result ≡ if_one plan.inputs (add_named (places_in (length nodes.old) (length names.old) l) plan.out (inverter plan.out (get_or plan.wires 0 0)) (held_of nodes.old names.old counts)) }
+    requires areas { NamedNodesHold text.now heads.old nodes.old names.old counts }
+    requires word_in_text { plan.out.start + plan.out.len ≤ length text.now }
+    ensures areas { NamedNodesHoldAfter text.now heads.new nodes.new names.new result }
+    ensures step { HeldStep (inverter_planned plan) nodes.old names.old counts nodes.new names.new result }
 {
     if plan.inputs != 1 {
         return Err(Refusal::WrongCount);
@@ -69,12 +63,12 @@ pub fn chain_many(
     nodes: &mut [usize],
     names: &mut [usize],
 ) -> Result<Counts, Refusal>
-    requires kept { Kept text.now heads.old nodes.old names.old counts }
-    requires len_in_bounds { plan.out.start + plan.out.len ≤ length text.now }
-    requires inside_in_bounds { plan.inside.start + plan.inside.len ≤ length text.now }
-    ensures kept_2 { IfOk result (λ c. Kept text.now heads.new nodes.new names.new c) }
-    ensures kept_refused { OnErr result (KeptForSome text.now heads.new nodes.new names.new) }
-    ensures by_index { (l : ℕ) → outcome (λ c. held_of nodes.new names.new c) result ≡ chain_words text.now (places_in (length nodes.old) (length names.old) l) plan.out operation 1 (get_or plan.wires 0 0) (get_or plan.wires 1 0) (drop 2 (arguments_of text.now plan.inside)) (held_of nodes.old names.old counts) }
+    requires areas { NamedNodesHold text.now heads.old nodes.old names.old counts }
+    requires word_in_text { plan.out.start + plan.out.len ≤ length text.now }
+    requires inside_in_text { plan.inside.start + plan.inside.len ≤ length text.now }
+    ensures areas { NamedNodesHoldAfter text.now heads.new nodes.new names.new result }
+    ensures step { HeldStep (chain_planned text.now plan operation)
+        nodes.old names.old counts nodes.new names.new result }
 {
     let table = NameTable {
         text,
@@ -115,12 +109,11 @@ pub fn lower_bench_gate(
     nodes: &mut [usize],
     names: &mut [usize],
 ) -> Result<Counts, Refusal>
-    requires kept { Kept text.now heads.old nodes.old names.old counts }
-    requires len_in_bounds { plan.out.start + plan.out.len ≤ length text.now }
+    requires areas { NamedNodesHold text.now heads.old nodes.old names.old counts }
+    requires word_in_text { plan.out.start + plan.out.len ≤ length text.now }
     requires driven { Driven text.now (entries names.old counts.names) plan }
-    ensures kept_2 { IfOk result (λ c. Kept text.now heads.new nodes.new names.new c) }
-    ensures kept_refused { OnErr result (KeptForSome text.now heads.new nodes.new names.new) }
-    ensures by_index { (l : ℕ) → outcome (λ c. held_of nodes.new names.new c) result ≡ and_then (input_wires text.now (entries names.old counts.names) (arguments_of text.now plan.inside)) (λ xs. lower_gate (places_in (length nodes.old) (length names.old) l) plan.out plan.operation xs (held_of nodes.old names.old counts)) }
+    ensures areas { NamedNodesHoldAfter text.now heads.new nodes.new names.new result }
+    ensures step { HeldStep (gate_planned text.now plan) nodes.old names.old counts nodes.new names.new result }
 {
     let Plan { out, wires, .. } = plan;
     match (plan.operation, plan.inputs) {

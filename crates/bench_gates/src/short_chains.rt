@@ -1,7 +1,7 @@
 // The chained gates of two and three inputs, made from their wires.
-ghost use Rattle.std.specs.Prelude.{◌≡◌, [], ◌∷◌, ℕ, ◌+◌, ◌≤◌, length, get_or, IfOk, OnErr};
-ghost use Rattle.reading.specs.Reading.{places_in, add_named};
-ghost use Rattle.reading.specs.Holding.{outcome, held_of, Kept, KeptForSome};
+ghost use Rattle.std.specs.Prelude.{[], ◌∷◌, ◌+◌, ◌≤◌, length, get_or};
+ghost use Rattle.reading.specs.Reading.{add_named};
+ghost use Rattle.reading.specs.Holding.{NamedNodesHold, NamedNodesHoldAfter, HeldStep};
 ghost use Rattle.bench_gates.specs.Gates.{last_cell, chain};
 
 use crate::chains::{bench_lut, push_bench_lut};
@@ -22,17 +22,18 @@ pub fn chain_pair(
     nodes: &mut [usize],
     names: &mut [usize],
 ) -> Result<Counts, Refusal>
-    requires kept { Kept text.now heads.old nodes.old names.old counts }
-    requires len_in_bounds { out.start + out.len ≤ length text.now }
-    ensures kept_2 { IfOk result (λ c. Kept text.now heads.new nodes.new names.new c) }
-    ensures kept_refused { OnErr result (KeptForSome text.now heads.new nodes.new names.new) }
-    ensures by_index { (l : ℕ) → outcome (λ c. held_of nodes.new names.new c) result ≡ add_named (places_in (length nodes.old) (length names.old) l) out (last_cell out operation x y) (held_of nodes.old names.old counts) }
+    requires areas { NamedNodesHold text.now heads.old nodes.old names.old counts }
+    requires word_in_text { out.start + out.len ≤ length text.now }
+    ensures areas { NamedNodesHoldAfter text.now heads.new nodes.new names.new result }
+    ensures step { HeldStep (λ p. add_named p out (last_cell out operation x y))
+        nodes.old names.old counts nodes.new names.new result }
 {
     let node = bench_lut(stretch_name(out), 2, operation.truth_table(), x, y);
     add_named(text, out, node, counts, heads, nodes, names)
 }
 
 // A gate of three inputs: the step that chains the first two, then the last cell. Beside `chain_many`, which looks for the third input's wire again.
+#[tactic(auto, using(circuit::proofs::Codes::length_nodes), unfolding(crate::specs::Gates::chain))]
 pub fn chain_triple(
     text: &[u8],
     out: Word,
@@ -43,11 +44,12 @@ pub fn chain_triple(
     nodes: &mut [usize],
     names: &mut [usize],
 ) -> Result<Counts, Refusal>
-    requires kept { Kept text.now heads.old nodes.old names.old counts }
-    requires len_in_bounds { out.start + out.len ≤ length text.now }
-    ensures kept_2 { IfOk result (λ c. Kept text.now heads.new nodes.new names.new c) }
-    ensures kept_refused { OnErr result (KeptForSome text.now heads.new nodes.new names.new) }
-    ensures by_index { (l : ℕ) → outcome (λ c. held_of nodes.new names.new c) result ≡ chain (places_in (length nodes.old) (length names.old) l) out operation 1 (get_or wires 0 0) (get_or wires 1 0 ∷ get_or wires 2 0 ∷ []) (held_of nodes.old names.old counts) }
+    requires areas { NamedNodesHold text.now heads.old nodes.old names.old counts }
+    requires word_in_text { out.start + out.len ≤ length text.now }
+    ensures areas { NamedNodesHoldAfter text.now heads.new nodes.new names.new result }
+    ensures step { let rest = get_or wires 1 0 ∷ get_or wires 2 0 ∷ [] in
+        HeldStep (λ p. chain p out operation 1 (get_or wires 0 0) rest)
+        nodes.old names.old counts nodes.new names.new result }
 {
     let [x, y, z] = wires;
     let n = counts.nodes;

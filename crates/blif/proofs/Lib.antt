@@ -1,4 +1,3 @@
-pub mod WordSteps
 pub mod Plans
 pub mod Examples
 pub mod Accepted

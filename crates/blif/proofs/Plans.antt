@@ -13,7 +13,6 @@ use lib.Dec.{leb}
 use borrow.Author.Tests.{lt-leb}
 use Rattle.circuit.specs.declared.refusals.Refusal.{Refusal}
 use Rattle.circuit.specs.declared.refusals.Refusal.TheVariants.{DefinedBefore, WrongCount, BadRow, Malformed}
-use Rattle.circuit.specs.Refusals.{Try, and_then}
 use Rattle.text.specs.Words.{bytes_of}
 use Rattle.text.specs.declared.words.Word.{Word}
 use Rattle.names.specs.Names.{Entry, lookup}
@@ -22,8 +21,8 @@ use Rattle.cover.specs.declared.gates.Inputs.{Inputs}
 use Rattle.cover.specs.declared.gates.Inputs.TheVariants.{Zero, One, Two}
 use Rattle.cover.specs.Gates.{listed, with_word, gate_of}
 use Rattle.cover.specs.Cover.{last_of, cover}
-use Rattle.reading.specs.Reading.{places_in, Held, find, add_alias, add_named}
-use Rattle.blif.specs.Blif.{drivers, input_names, gate, Plan, covered, plan, names_line}
+use Rattle.reading.specs.Reading.{find}
+use Rattle.blif.specs.Blif.{drivers, input_names, covered, plan}
 
 -- ---- the words of a gate
 
@@ -121,20 +120,3 @@ module _ (t : List ℕ) (ws : List Word) (rows : List (List Word)) (es : List En
             let h = has_words ws g is in
             let names = names_of g.inputs (input_names h.first h.rest) h.inputs i ei in
             rw (h.are, ← h.out, new, ← names, few i, ← d, ← ec, q)
-
--- ---- the places that a `.names` line looks at
-
--- nodes and names alone are looked at
-gate-places : (n m o : ℕ) (out : Word) (xs : List ℕ) (table : ℕ) (h : Held) → gate (places_in n m 0) out xs table h ≡ gate (places_in n m o) out xs table h
-unfolding gate add_alias add_named
-gate-places n m o out [] table h = refl
-gate-places n m o out (x ∷ []) table h = refl
-gate-places n m o out (x ∷ y ∷ ys) table h = refl
-
-pub names_places : (t : List ℕ) (n m o : ℕ) (ws : List Word) (rows : List (List Word)) (h : Held) → names_line t (places_in n m 0) ws rows h ≡ names_line t (places_in n m o) ws rows h
-unfolding names_line
-names_places t n m o ws rows h = go (plan t ws rows h.names)
-  where
-    go : (r : Try Plan) → and_then r (λ g. gate (places_in n m 0) g.out g.wires g.table h) ≡ and_then r (λ g. gate (places_in n m o) g.out g.wires g.table h)
-    go (Err e) = refl
-    go (Ok g) = gate-places n m o g.out g.wires g.table h

@@ -3,14 +3,16 @@
 use Rattle.std.specs.Prelude.{ℕ, ◌+◌, ◌≤◌, ◌≡◌, false, List, length, IfOk}
 use mathlib.Core.Path.{refl}
 use Rattle.circuit.specs.Refusals.{Try, and_then}
-use Rattle.text.specs.Lines.{lines}
+use Rattle.text.specs.Lines.{lines, line_words}
 use Rattle.text.specs.declared.words.Word.{Word}
 use Rattle.names.specs.Names.{Entry}
+use Rattle.cover.specs.declared.directives.Directive.{Directive}
 use Rattle.cover.specs.Gates.{listed}
+use Rattle.cover.specs.Rows.{rows_from}
 use Rattle.reading.specs.Reading.{Places, State, start, find, driver, finish}
 use Rattle.reading.specs.Holding.{outcome}
 use Rattle.blif.specs.declared.gates.Planned.{Planned}
-use Rattle.blif.specs.Blif.{Plan, read_lines, blif_lines}
+use Rattle.blif.specs.Blif.{Plan, directive_step, read_lines, blif_lines}
 
 abbrev pub planned : Planned → Plan
 planned p = record { out = p.out; wires = listed p.wires; table = p.table }
@@ -23,6 +25,10 @@ driver_of t es w = driver (find false t w es)
 pub record PlanIs (t : List ℕ) (r : Try Planned) (o : Try Plan) : Type 0 where
   pub is : outcome planned r ≡ o
   pub inside : IfOk r (λ p. p.out.start + p.out.len ≤ length t)
+
+-- a directive with the stretch after it, and the rows from a place on
+abbrev pub directive_at : List ℕ → Directive → Word → ℕ → Places → State → Try State
+directive_at t directive line next p s = directive_step t p directive (line_words t line) (rows_from t next) s
 
 -- what the lines of a joined text add to nothing
 abbrev pub blif_reads : List ℕ → Places → Try State

@@ -1,12 +1,12 @@
 // A `.names` line: its words, its rows, and the constant, alias or cell that they give.
-ghost use Rattle.std.specs.Prelude.{◌≡◌, ◌+◌, ◌≤◌, length, Some, IfOk, OnErr};
-ghost use Rattle.laws.specs.Areas.{capacity};
+ghost use Rattle.std.specs.Prelude.{◌≡◌, ◌+◌, ◌≤◌, length, Some, IfOk};
+ghost use Rattle.std.specs.Result.{result_unwrap_or};
 ghost use Rattle.text.specs.Lines.{line_words};
-ghost use Rattle.names.specs.Chains.{entries, Table};
+ghost use Rattle.names.specs.Chains.{Table};
 ghost use Rattle.cover.specs.Gates.{listed, InputsFit};
 ghost use Rattle.cover.specs.Rows.{rows_from};
-ghost use Rattle.reading.specs.Reading.{places_in, add_name};
-ghost use Rattle.reading.specs.Holding.{outcome, held_of, Kept, KeptForSome};
+ghost use Rattle.reading.specs.Reading.{add_name};
+ghost use Rattle.reading.specs.Holding.{outcome, entries_of, NamedNodesHold, NamedNodesHoldAfter, NamesStep, HeldStep};
 ghost use Rattle.blif.specs.Blif.{cell_node, drivers, gate, plan, names_line};
 ghost use Rattle.blif.specs.Holding.{driver_of, PlanIs};
 
@@ -33,8 +33,8 @@ pub struct Planned {
 // The wire of an input word: 5.
 #[tactic(auto, unfolding(reading::specs::Reading::find))]
 pub fn driver(table: &NameTable, word: Word) -> Result<usize, Refusal>
-    requires len_in_bounds { word.start + word.len ≤ length table.now.text.now }
-    ensures { result ≡ driver_of table.now.text.now (entries table.now.names.now table.now.count) word }
+    requires { word.start + word.len ≤ length table.now.text.now }
+    ensures { result ≡ driver_of table.now.text.now (entries_of table.now) word }
 {
     table.find(word).ok_or(Refusal::NoDriver)
 }
@@ -42,8 +42,8 @@ pub fn driver(table: &NameTable, word: Word) -> Result<usize, Refusal>
 // The wires of the input words: 5.
 #[tactic(auto, unfolding(crate::specs::Blif::drivers))]
 pub fn drivers(table: &NameTable, inputs: Inputs<Word>) -> Result<Inputs<usize>, Refusal>
-    requires len_in_bounds { InputsFit (length table.now.text.now) (Some inputs) }
-    ensures { outcome (λ w. listed w) result ≡ drivers table.now.text.now (entries table.now.names.now table.now.count) (listed inputs) }
+    requires { InputsFit (length table.now.text.now) (Some inputs) }
+    ensures { outcome (λ w. listed w) result ≡ drivers table.now.text.now (entries_of table.now) (listed inputs) }
 {
     Ok(match inputs {
         Inputs::Zero => Inputs::Zero,
@@ -55,8 +55,9 @@ pub fn drivers(table: &NameTable, inputs: Inputs<Word>) -> Result<Inputs<usize>,
 // The words after `.names`, with the rows from `next` on: 9, 4, 6, 5, 7.
 #[tactic(auto, using(crate::proofs::Plans::plan_none, crate::proofs::Plans::plan_known, crate::proofs::Plans::plan_many, crate::proofs::Plans::plan_rows))]
 pub fn plan_gate(table: &NameTable, line: Word, next: usize) -> Result<Planned, Refusal>
-    requires line_in_bounds { line.start + line.len ≤ length table.now.text.now }
-    ensures { PlanIs table.now.text.now result (plan table.now.text.now (line_words table.now.text.now line) (rows_from table.now.text.now next) (entries table.now.names.now table.now.count)) }
+    requires { line.start + line.len ≤ length table.now.text.now }
+    ensures { let t = table.now.text.now in
+        PlanIs t result (plan t (line_words t line) (rows_from t next) (entries_of table.now)) }
 {
     let gate = gate_words(line_words(table.text, line)).ok_or(Refusal::Malformed)?;
     if table.find(gate.out).is_some() {
@@ -83,11 +84,11 @@ pub fn add_alias(
     names: &mut [usize],
 ) -> Result<Counts, Refusal>
     requires table { Table text.now heads.old names.old counts.names }
-    requires len_in_bounds { word.start + word.len ≤ length text.now }
-    ensures table_2 { IfOk result (λ c. Table text.now heads.new names.new c.names) }
-    ensures table_refused { OnErr result (Table text.now heads.new names.new counts.names) }
-    ensures nodes_value { IfOk result (λ c. c.nodes ≡ counts.nodes) }
-    ensures names_after { outcome (λ c. entries names.new c.names) result ≡ add_name (capacity 4 (length names.old)) word wire (entries names.old counts.names) }
+    requires word_in_text { word.start + word.len ≤ length text.now }
+    ensures table { Table text.now heads.new names.new (result_unwrap_or result counts).names }
+    ensures same_nodes { IfOk result (λ c. c.nodes ≡ counts.nodes) }
+    ensures step { NamesStep (λ room. add_name room word wire)
+        names.old counts.names names.new (outcome (λ c. c.names) result) }
 {
     let named = add_name(text, word, wire, counts.names, heads, names)?;
     Ok(Counts {
@@ -125,11 +126,11 @@ pub fn put_gate(
     nodes: &mut [usize],
     names: &mut [usize],
 ) -> Result<Counts, Refusal>
-    requires kept { Kept text.now heads.old nodes.old names.old counts }
-    requires len_in_bounds { p.out.start + p.out.len ≤ length text.now }
-    ensures kept_2 { IfOk result (λ c. Kept text.now heads.new nodes.new names.new c) }
-    ensures kept_refused { OnErr result (KeptForSome text.now heads.new nodes.new names.new) }
-    ensures counts_after { outcome (λ c. held_of nodes.new names.new c) result ≡ gate (places_in (length nodes.old) (length names.old) 0) p.out (listed p.wires) p.table (held_of nodes.old names.old counts) }
+    requires areas { NamedNodesHold text.now heads.old nodes.old names.old counts }
+    requires word_in_text { p.out.start + p.out.len ≤ length text.now }
+    ensures areas { NamedNodesHoldAfter text.now heads.new nodes.new names.new result }
+    ensures step { HeldStep (λ places. gate places p.out (listed p.wires) p.table)
+        nodes.old names.old counts nodes.new names.new result }
 {
     match (p.wires, p.table) {
         (Inputs::Zero, wire) => add_alias(text, p.out, wire, counts, heads, names),
@@ -149,11 +150,11 @@ pub fn names_line(
     nodes: &mut [usize],
     names: &mut [usize],
 ) -> Result<Counts, Refusal>
-    requires kept { Kept text.now heads.old nodes.old names.old counts }
-    requires line_in_bounds { line.start + line.len ≤ length text.now }
-    ensures kept_2 { IfOk result (λ c. Kept text.now heads.new nodes.new names.new c) }
-    ensures kept_refused { OnErr result (KeptForSome text.now heads.new nodes.new names.new) }
-    ensures counts_after { outcome (λ c. held_of nodes.new names.new c) result ≡ names_line text.now (places_in (length nodes.old) (length names.old) 0) (line_words text.now line) (rows_from text.now next) (held_of nodes.old names.old counts) }
+    requires areas { NamedNodesHold text.now heads.old nodes.old names.old counts }
+    requires line_in_text { line.start + line.len ≤ length text.now }
+    ensures areas { NamedNodesHoldAfter text.now heads.new nodes.new names.new result }
+    ensures step { HeldStep (λ p. names_line text.now p (line_words text.now line) (rows_from text.now next))
+        nodes.old names.old counts nodes.new names.new result }
 {
     let table = NameTable {
         text,

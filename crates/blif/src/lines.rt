@@ -1,11 +1,8 @@
 // The lines of a joined text.
-ghost use Rattle.std.specs.Prelude.{◌≡◌, ◌+◌, ◌≤◌, length, IfOk, OnErr};
-ghost use Rattle.text.specs.Lines.{line_words};
-ghost use Rattle.cover.specs.Rows.{rows_from};
-ghost use Rattle.reading.specs.Reading.{places_in};
-ghost use Rattle.reading.specs.Holding.{outcome, state_of, Kept, KeptForSome, WordsKept, WordsKeptForSome};
-ghost use Rattle.blif.specs.Blif.{blif_lines, directive_step};
-ghost use Rattle.blif.specs.Holding.{blif_reads, blif_ends};
+ghost use Rattle.std.specs.Prelude.{◌+◌, ◌≤◌, length};
+ghost use Rattle.reading.specs.Holding.{AreasHold, AreasHoldAfter, StateStep};
+ghost use Rattle.blif.specs.Blif.{blif_lines};
+ghost use Rattle.blif.specs.Holding.{directive_at, blif_reads, blif_ends};
 
 use crate::gates::names_line;
 use crate::read::Blif;
@@ -19,7 +16,7 @@ use text::iterators::lines_of;
 use text::words::Word;
 
 // A directive with the stretch after it, and the rows from `next` on.
-#[tactic(auto, using(crate::proofs::WordSteps::input_places, crate::proofs::Plans::names_places), unfolding(crate::specs::Blif::directive_step))]
+#[tactic(auto, unfolding(crate::specs::Blif::directive_step))]
 pub fn read_directive(
     text: &[u8],
     directive: Directive,
@@ -31,14 +28,11 @@ pub fn read_directive(
     names: &mut [usize],
     outputs: &mut [usize],
 ) -> Result<Reading, Refusal>
-    requires kept { Kept text.now heads.old nodes.old names.old read.counts }
-    requires words_kept { WordsKept text.now outputs.old read.outputs }
-    requires line_in_bounds { line.start + line.len ≤ length text.now }
-    ensures kept_2 { IfOk result (λ r. Kept text.now heads.new nodes.new names.new r.counts) }
-    ensures kept_refused { OnErr result (KeptForSome text.now heads.new nodes.new names.new) }
-    ensures words_kept_2 { IfOk result (λ r. WordsKept text.now outputs.new r.outputs) }
-    ensures words_refused { OnErr result (WordsKeptForSome text.now outputs.new) }
-    ensures outputs_after { outcome (λ r. state_of nodes.new names.new outputs.new r.counts r.outputs) result ≡ directive_step text.now (places_in (length nodes.old) (length names.old) (length outputs.old)) directive (line_words text.now line) (rows_from text.now next) (state_of nodes.old names.old outputs.old read.counts read.outputs) }
+    requires areas { AreasHold text.now heads.old nodes.old names.old outputs.old read }
+    requires line_in_text { line.start + line.len ≤ length text.now }
+    ensures areas { AreasHoldAfter text.now heads.new nodes.new names.new outputs.new result }
+    ensures step { StateStep (directive_at text.now directive line next)
+        nodes.old names.old outputs.old read nodes.new names.new outputs.new result }
 {
     match directive {
         Directive::Ignored => Ok(read),

@@ -1,6 +1,6 @@
 // The reader: a text into a circuit, or its refusal.
-ghost use Rattle.std.specs.Prelude.{false, length};
-ghost use Rattle.reading.specs.Areas.{Leaves};
+ghost use Rattle.std.specs.Prelude.{false};
+ghost use Rattle.reading.specs.Areas.{LeavesAreas};
 ghost use Rattle.blif.specs.Blif.{blif};
 
 use circuit::records::Sizes;
@@ -29,7 +29,8 @@ pub fn parse_blif(
     names: &mut [usize],
     outputs: &mut [usize],
 ) -> Result<Sizes, Refusal>
-    ensures { Leaves text.now (blif text.now (length joined.old) (length nodes.old) (length names.old) (length outputs.old)) (length joined.old) (length nodes.old) (length names.old) (length outputs.old) result joined.new nodes.new names.new outputs.new }
+    ensures { LeavesAreas text.now (blif text.now) joined.old nodes.old names.old outputs.old
+        result joined.new nodes.new names.new outputs.new }
 {
     parse::<Blif>(text, joined, nodes, names, outputs)
 }

@@ -1,9 +1,8 @@
 // The words of `.inputs` and `.outputs`.
-ghost use Rattle.std.specs.Prelude.{◌≡◌, false, length, IfOk, OnErr};
-ghost use Rattle.laws.specs.Areas.{capacity};
+ghost use Rattle.std.specs.Prelude.{false};
 ghost use Rattle.text.specs.Iterators.{words_left};
-ghost use Rattle.reading.specs.Reading.{places_in, add_input, add_output, each};
-ghost use Rattle.reading.specs.Holding.{outcome, held_of, Kept, KeptForSome, words_of, WordsKept, WordsKeptForSome};
+ghost use Rattle.reading.specs.Reading.{add_input, add_output, each};
+ghost use Rattle.reading.specs.Holding.{NamedNodesHold, NamedNodesHoldAfter, HeldStep, WordsHold, WordsHoldAfter, WordsStep};
 
 use crate::read::Blif;
 use circuit::refusals::Refusal;
@@ -20,10 +19,10 @@ pub fn input_words(
     nodes: &mut [usize],
     names: &mut [usize],
 ) -> Result<Counts, Refusal>
-    requires kept { Kept words.text.now heads.old nodes.old names.old counts }
-    ensures kept_2 { IfOk result (λ c. Kept words.entry.text.now heads.new nodes.new names.new c) }
-    ensures kept_refused { OnErr result (KeptForSome words.entry.text.now heads.new nodes.new names.new) }
-    ensures counts_after { outcome (λ c. held_of nodes.new names.new c) result ≡ each (add_input false words.entry.text.now (places_in (length nodes.old) (length names.old) 0)) (words_left words.entry) (held_of nodes.old names.old counts) }
+    requires { NamedNodesHold words.text.now heads.old nodes.old names.old counts }
+    ensures areas { NamedNodesHoldAfter words.entry.text.now heads.new nodes.new names.new result }
+    ensures step { HeldStep (λ p. each (add_input false words.entry.text.now p) (words_left words.entry))
+        nodes.old names.old counts nodes.new names.new result }
 {
     let text = words.text;
     let mut held = counts;
@@ -36,10 +35,10 @@ pub fn input_words(
 // The words of `.outputs`. One function for both lists would take the step as a closure, and of areas that a closure changes its caller would learn nothing.
 #[tactic(auto, using(text::proofs::WordLaws::each_word), unfolding(reading::specs::Reading::each))]
 pub fn output_words(words: Words, count: usize, outputs: &mut [usize]) -> Result<usize, Refusal>
-    requires words_kept { WordsKept words.text.now outputs.old count }
-    ensures words_kept_2 { IfOk result (λ n. WordsKept words.entry.text.now outputs.new n) }
-    ensures words_refused { OnErr result (WordsKeptForSome words.entry.text.now outputs.new) }
-    ensures count_after { outcome (λ n. words_of outputs.new n) result ≡ each (add_output (capacity 5 (length outputs.old))) (words_left words.entry) (words_of outputs.old count) }
+    requires { WordsHold words.text.now outputs.old count }
+    ensures area { WordsHoldAfter words.entry.text.now outputs.new result }
+    ensures step { WordsStep (λ room. each (add_output room) (words_left words.entry))
+        outputs.old count outputs.new result }
 {
     let text = words.text;
     let mut n = count;

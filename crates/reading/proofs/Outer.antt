@@ -7,7 +7,7 @@ use mathlib.Core.Bool.{Bool, not}
 use mathlib.Core.List.{List, ◌++◌}
 use native.Mathlib.Nat.{sub-zero}
 use native.Mathlib.Omega.{arith}
-use lib.ListN.{length, take, replicate, length-replicate}
+use lib.ListN.{length, take, replicate}
 use lib.Seq.{take_at}
 use lib.Dec.{leb, ltb}
 use borrow.Author.Tests.{leb-false, ltb-false}
@@ -25,7 +25,7 @@ use Rattle.text.specs.Bytes.{is_ascii}
 use Rattle.text.specs.Joining.{joined_text, Joins}
 use Rattle.names.proofs.Orders.{empty_table}
 use Rattle.reading.specs.Reading.{Places, State, places_in, bytes_fault, text_fault, resolve, closed, finish}
-use Rattle.reading.specs.Holding.{Kept, circuit_of, Ends}
+use Rattle.reading.specs.Holding.{nothing_read, AreasHold, circuit_of, Ends}
 use Rattle.reading.specs.Areas.{read_text, Leaves, Zeroed, JoinedIn}
 
 -- ---- the areas made ready
@@ -53,10 +53,13 @@ joined_in text size r joined l h k = record {
 zeros_less : (n : ℕ) → ◌≡◌ {A = List ℕ} (replicate n 0) (replicate (n - 0) 0)
 zeros_less n = ap (λ (k : ℕ). replicate k 0) (sym (sub-zero n))
 
-pub start-kept : (t ns ms : List ℕ) (n : ℕ) → length t < 2097152 → ns ≡ replicate n 0 → Kept t (replicate 256 0) ns ms (record { nodes = 0; names = 0 })
-start-kept t ns ms n l e = record {
-  table = empty_table t ms l;
-  nodes = record { room = omega arith; clean = e ∙ zeros_less n ∙ ap (λ (k : ℕ). replicate (k - 0) 0) (sym (length-replicate n 0) ∙ sym (ap length e)) };
+zeros_all : (xs : List ℕ) → xs ≡ replicate (length xs) 0 → xs ≡ replicate (length xs - 0) 0
+zeros_all xs e = e ∙ zeros_less (length xs)
+
+pub nothing_stands : (t ns ms os : List ℕ) → length t < 2097152 → ns ≡ replicate (length ns) 0 → os ≡ replicate (length os) 0 → AreasHold t (replicate 256 0) ns ms os nothing_read
+nothing_stands t ns ms os l e f = record {
+  named = record { table = empty_table t ms l; nodes = record { room = omega arith; clean = zeros_all ns e } };
+  words = record { room = omega arith; clean = zeros_all os f; inside = tt };
 }
 
 -- ---- what a text gives

@@ -1,22 +1,20 @@
 -- Laws of the steps that add names, nodes, inputs and output words.
 -- Assumes nothing.
-use Rattle.std.specs.Prelude.{Err, None, Ok, Option, Some}
+use Rattle.std.specs.Prelude.{Err, Ok}
 use Prim.Native.Nat.{ℕ, zero, suc, ◌+◌, ◌≤◌, ◌<◌}
 use mathlib.Core.Path.{◌≡◌, refl, ap}
-use mathlib.Core.Bool.{Bool}
 use mathlib.Core.List.{List, [], ◌∷◌, ◌++◌}
 use lib.ListN.{length}
 use borrow.Author.Tests.{lt-ltb, le-ltb}
 use Rattle.laws.proofs.Stretches.{all_append}
-use Rattle.circuit.specs.declared.refusals.Refusal.{Refusal}
-use Rattle.circuit.specs.declared.refusals.Refusal.TheVariants.{NoRoom, DefinedBefore}
+use Rattle.circuit.specs.declared.refusals.Refusal.TheVariants.{NoRoom}
 use Rattle.circuit.specs.declared.records.BoolNode.{BoolNode}
 use Rattle.circuit.specs.Records.{nodes_of}
 use Rattle.circuit.proofs.Codes.{length_nodes}
 use Rattle.text.specs.declared.words.Word.{Word}
 use Rattle.names.specs.Names.{Entry}
 use Rattle.names.specs.Chains.{entries}
-use Rattle.reading.specs.Reading.{Places, Held, find, add_name, add_node, add_named, input_node, add_input, add_output}
+use Rattle.reading.specs.Reading.{add_name, add_node, add_output}
 use Rattle.reading.specs.Holding.{words_of, output_word, InText}
 use Rattle.laws.proofs.Areas.{length_up}
 
@@ -47,30 +45,6 @@ module _ (ns : List ℕ) (n room : ℕ) (x : BoolNode) where
   pub node_added : n < room → (xs : List BoolNode) → xs ≡ nodes_of ns n ++ (x ∷ []) → Ok xs ≡ add_node room x (nodes_of ns n)
   unfolding add_node
   node_added h xs q = rw (length_nodes ns n, lt-ltb n room h, q)
-
-module _ (p : Places) (w : Word) (x : BoolNode) (ns : List ℕ) (n : ℕ) (es : List Entry) where
-  pub named_refused : (e : Refusal) → Err e ≡ add_node p.nodes x (nodes_of ns n) → Err e ≡ add_named p w x (record { nodes = nodes_of ns n; names = es })
-  unfolding add_named
-  named_refused e q = rw (← q)
-
-  pub named-unnamed : (xs : List BoolNode) → Ok xs ≡ add_node p.nodes x (nodes_of ns n) → (e : Refusal) → Err e ≡ add_name p.names w (n + 2) es
-      → Err e ≡ add_named p w x (record { nodes = nodes_of ns n; names = es })
-  unfolding add_named
-  named-unnamed xs q e r = rw (← q, length_nodes ns n, ← r)
-
-  pub named-added : (xs : List BoolNode) → Ok xs ≡ add_node p.nodes x (nodes_of ns n) → (es' : List Entry) → Ok es' ≡ add_name p.names w (n + 2) es
-      → Ok (record { nodes = xs; names = es' }) ≡ add_named p w x (record { nodes = nodes_of ns n; names = es })
-  unfolding add_named
-  named-added xs q es' r = rw (← q, length_nodes ns n, ← r)
-
-module _ (b : Bool) (t : List ℕ) (p : Places) (w : Word) (h : Held) (f : Option ℕ) (e : f ≡ find b t w h.names) where
-  pub input_known : (k : ℕ) → f ≡ Some k → Err DefinedBefore ≡ add_input b t p w h
-  unfolding add_input
-  input_known k q = rw (← e, q)
-
-  pub input_new : f ≡ None → add_named p w (input_node w) h ≡ add_input b t p w h
-  unfolding add_input
-  input_new q = rw (← e, q)
 
 module _ (os : List ℕ) (n room : ℕ) (w : Word) where
   pub output_full : room ≤ n → Err NoRoom ≡ add_output room w (words_of os n)

@@ -13,7 +13,7 @@ use Rattle.circuit.specs.declared.records.BoolNode.{BoolNode}
 use Rattle.circuit.specs.Records.{encode_node, nodes_of}
 use Rattle.circuit.proofs.Codes.{next_nodes, next_nodes_clean}
 use Rattle.text.specs.declared.words.Word.{Word}
-use Rattle.reading.specs.Holding.{NodesKept, words_of, encode_word}
+use Rattle.reading.specs.Holding.{NodesHold, words_of, encode_word}
 
 -- below the capacity there is room for one record more
 pub room_of : (width words n : ℕ) → 0 < width → n < capacity width words → n * width + width ≤ words
@@ -26,12 +26,12 @@ pub below_cap : (width words n : ℕ) → n < capacity width words → n < 10485
 unfolding capacity
 below_cap width words n k = omega arith
 
-module _ (a b : List ℕ) (n : ℕ) (x : BoolNode) (put : b ≡ stored a (n * 9) (encode_node x)) (same : length b ≡ length a) (room : n * 9 + 9 ≤ length a) (kept : NodesKept a n) where
+module _ (a b : List ℕ) (n : ℕ) (x : BoolNode) (put : b ≡ stored a (n * 9) (encode_node x)) (same : length b ≡ length a) (room : n * 9 + 9 ≤ length a) (kept : NodesHold a n) where
   pub more_nodes : nodes_of b (n + 1) ≡ nodes_of a n ++ (x ∷ [])
   more_nodes = next_nodes a b n x put same kept.clean
 
-  pub more_kept : NodesKept b (n + 1)
-  more_kept = record { room = omega (arith, same, room); clean = next_nodes_clean a b n x put same kept.clean }
+  pub more_hold : NodesHold b (n + 1)
+  more_hold = record { room = omega (arith, same, room); clean = next_nodes_clean a b n x put same kept.clean }
 
 abbrev word_from : (ℕ → ℕ) → Word
 word_from f = record { start = f 1; len = f 2 }

@@ -25,6 +25,11 @@ pub record Leaves (text : List ℕ) (c : Try Circuit) (j n m o : ℕ) (r : Try S
   pub names_is : names ≡ replicate m 0
   pub outputs_is : outputs ≡ filled (output_words c) o
 
+-- the same, of what a reader makes of the areas that were lent
+abbrev pub LeavesAreas : List ℕ → (ℕ → ℕ → ℕ → ℕ → Try Circuit) → List ℕ → List ℕ → List ℕ → List ℕ → Try Sizes → List ℕ → List ℕ → List ℕ → List ℕ → Type 0
+LeavesAreas text read joined nodes names outputs r joined' nodes' names' outputs' =
+    Leaves text (read (length joined) (length nodes) (length names) (length outputs)) (length joined) (length nodes) (length names) (length outputs) r joined' nodes' names' outputs'
+
 -- "A refusal .. zeros every area lent for writing"
 pub record Zeroed (e : Refusal) (j n m o : ℕ) (r : Try Sizes) (joined nodes names outputs : List ℕ) : Type 0 where
   pub answer : r ≡ Err e

@@ -40,7 +40,8 @@ pub fn refuse(
     names: &mut [usize],
     outputs: &mut [usize],
 ) -> Result<Sizes, Refusal>
-    ensures { Zeroed e (length joined.old) (length nodes.old) (length names.old) (length outputs.old) result joined.new nodes.new names.new outputs.new }
+    ensures { Zeroed e (length joined.old) (length nodes.old) (length names.old) (length outputs.old)
+        result joined.new nodes.new names.new outputs.new }
 {
     joined.fill(0);
     nodes.fill(0);
@@ -56,7 +57,8 @@ pub fn prepare(
     nodes: &mut [usize],
     outputs: &mut [usize],
 ) -> Result<usize, Refusal>
-    ensures { PreparedIs text.now (length joined.old) (length nodes.old) (length outputs.old) joined.new nodes.new outputs.new result }
+    ensures { PreparedIs text.now (length joined.old) (length nodes.old) (length outputs.old)
+        joined.new nodes.new outputs.new result }
 {
     text_fault(text, joined.len())?;
     nodes.fill(0);
@@ -72,7 +74,8 @@ pub fn conclude(
     names: &mut [usize],
     outputs: &mut [usize],
 ) -> Result<Sizes, Refusal>
-    ensures { Concludes ended joined.old nodes.old (length names.old) outputs.old result joined.new nodes.new names.new outputs.new }
+    ensures { Concludes ended joined.old nodes.old (length names.old) outputs.old
+        result joined.new nodes.new names.new outputs.new }
 {
     match ended {
         Err(e) => refuse(e, joined, nodes, names, outputs),

@@ -1,11 +1,10 @@
 // What the readers of joined texts do alike: the text is joined, its lines are read into areas of zeros, and a refusal leaves zeros.
-ghost use Rattle.std.specs.Prelude.{◌≡◌, ℕ, ◌+◌, ◌≤◌, ◌<◌, Bool, List, length, replicate, IfOk, OnErr};
+ghost use Rattle.std.specs.Prelude.{◌≡◌, ℕ, ◌+◌, ◌≤◌, ◌<◌, Bool, List, length, replicate};
 ghost use Rattle.circuit.specs.Refusals.{Try, and_then};
 ghost use Rattle.circuit.specs.Circuits.{Circuit};
-ghost use Rattle.names.specs.Chains.{entries};
-ghost use Rattle.reading.specs.Reading.{Places, State, places_in, find, finish};
-ghost use Rattle.reading.specs.Holding.{outcome, state_of, Kept, KeptForSome, WordsKept, WordsKeptForSome, Ends};
-ghost use Rattle.reading.specs.Areas.{read_text, Leaves};
+ghost use Rattle.reading.specs.Reading.{Places, State, find, finish};
+ghost use Rattle.reading.specs.Holding.{places_of, entries_of, nothing_read, AreasHold, AreasHoldAfter, StateStep, Ends};
+ghost use Rattle.reading.specs.Areas.{read_text, LeavesAreas};
 
 use crate::areas::{conclude, prepare, refuse};
 use crate::outputs::resolve_outputs;
@@ -23,7 +22,7 @@ pub trait Names {
     // The wire's word of a name.
     fn find_wire(table: &NameTable, word: Word) -> Option<usize>
         requires { word.start + word.len ≤ length table.now.text.now }
-        ensures { result ≡ find constants table.now.text.now word (entries table.now.names.now table.now.count) };
+        ensures { result ≡ find constants table.now.text.now word (entries_of table.now) };
 }
 
 // A format whose lines may be continued, as BLIF and BENCH are.
@@ -42,13 +41,10 @@ pub trait Format: Names {
         names: &mut [usize],
         outputs: &mut [usize],
     ) -> Result<Reading, Refusal>
-        requires kept { Kept text.now heads.old nodes.old names.old (record { nodes = 0; names = 0 }) }
-        requires words_kept { WordsKept text.now outputs.old 0 }
-        ensures kept_2 { IfOk result (λ r. Kept text.now heads.new nodes.new names.new r.counts) }
-        ensures kept_refused { OnErr result (KeptForSome text.now heads.new nodes.new names.new) }
-        ensures words_kept_2 { IfOk result (λ r. WordsKept text.now outputs.new r.outputs) }
-        ensures words_refused { OnErr result (WordsKeptForSome text.now outputs.new) }
-        ensures outputs_after { outcome (λ r. state_of nodes.new names.new outputs.new r.counts r.outputs) result ≡ reads text.now (places_in (length nodes.old) (length names.old) (length outputs.old)) };
+        requires { AreasHold text.now heads.old nodes.old names.old outputs.old nothing_read }
+        ensures areas { AreasHoldAfter text.now heads.new nodes.new names.new outputs.new result }
+        ensures step { StateStep (λ p s. reads text.now p)
+            nodes.old names.old outputs.old nothing_read nodes.new names.new outputs.new result };
 
     // The circuit is what the lines give, once the outputs have their wires.
     ghost ends: { (t : List ℕ) (p : Places) → lines t p ≡ and_then (reads t p) (finish Self.Names.constants t) };
@@ -61,8 +57,10 @@ pub fn read_joined<F: Format>(
     names: &mut [usize],
     outputs: &mut [usize],
 ) -> Result<Sizes, Refusal>
-    requires zeros { (nodes.old ≡ replicate (length nodes.old) 0) × (outputs.old ≡ replicate (length outputs.old) 0) × (length text.now < 2097152) }
-    ensures { Ends (F.lines text.now (places_in (length nodes.old) (length names.old) (length outputs.old))) result nodes.new outputs.new }
+    requires nodes_zero { nodes.old ≡ replicate (length nodes.old) 0 }
+    requires outputs_zero { outputs.old ≡ replicate (length outputs.old) 0 }
+    requires text_short { length text.now < 2097152 }
+    ensures { Ends (F.lines text.now (places_of nodes.old names.old outputs.old)) result nodes.new outputs.new }
 {
     let mut heads = [0; 256];
     let read = F::read_lines(text, &mut heads, nodes, names, outputs)?;
@@ -87,7 +85,8 @@ pub fn parse<F: Format>(
     names: &mut [usize],
     outputs: &mut [usize],
 ) -> Result<Sizes, Refusal>
-    ensures { Leaves text.now (read_text F.lines text.now (length joined.old) (length nodes.old) (length names.old) (length outputs.old)) (length joined.old) (length nodes.old) (length names.old) (length outputs.old) result joined.new nodes.new names.new outputs.new }
+    ensures { LeavesAreas text.now (read_text F.lines text.now) joined.old nodes.old names.old outputs.old
+        result joined.new nodes.new names.new outputs.new }
 {
     match prepare(text, joined, nodes, outputs) {
         Err(e) => refuse(e, joined, nodes, names, outputs),

@@ -1,9 +1,8 @@
 // The outputs: their words as they are read, their wires at the end.
-ghost use Rattle.std.specs.Prelude.{◌≡◌, ◌+◌, ◌*◌, ◌≤◌, length, IfOk, OnErr};
-ghost use Rattle.laws.specs.Areas.{capacity};
-ghost use Rattle.names.specs.Chains.{entries};
+ghost use Rattle.std.specs.Prelude.{◌≡◌, ◌+◌, ◌*◌, ◌≤◌, length};
+ghost use Rattle.std.specs.Result.{result_unwrap_or};
 ghost use Rattle.reading.specs.Reading.{find, add_output};
-ghost use Rattle.reading.specs.Holding.{outcome, output_word, words_of, WordsKept, put_wire, Resolved};
+ghost use Rattle.reading.specs.Holding.{entries_of, output_word, words_of, WordsHold, WordsStep, put_wire, Resolved};
 
 use crate::format::Names;
 use crate::records::stretch_name;
@@ -14,17 +13,17 @@ use names::NameTable;
 use text::words::Word;
 
 // An output's word takes its place: how many outputs there are then. Of `add_node` and `add_name` it shares the test for room alone.
+#[tactic(auto, using(crate::proofs::Steps::output_full, crate::proofs::Steps::output_added, crate::proofs::Storing::room_of, crate::proofs::Storing::more_words))]
 pub fn add_output(
     text: &[u8],
     word: Word,
     count: usize,
     outputs: &mut [usize],
 ) -> Result<usize, Refusal>
-    requires words_kept { WordsKept text.now outputs.old count }
-    requires len_in_bounds { word.start + word.len ≤ length text.now }
-    ensures words_kept_2 { IfOk result (λ n. WordsKept text.now outputs.new n) }
-    ensures words_refused { OnErr result (WordsKept text.now outputs.new count) }
-    ensures count_after { outcome (λ n. words_of outputs.new n) result ≡ add_output (capacity 5 (length outputs.old)) word (words_of outputs.old count) }
+    requires area { WordsHold text.now outputs.old count }
+    requires word_in_text { word.start + word.len ≤ length text.now }
+    ensures area { WordsHold text.now outputs.new (result_unwrap_or result count) }
+    ensures step { WordsStep (λ room. add_output room word) outputs.old count outputs.new result }
 {
     if records_in(outputs.len(), 5) <= count {
         return Err(Refusal::NoRoom);
@@ -36,9 +35,10 @@ pub fn add_output(
 
 // The wire of output j, stored where it is found.
 pub fn resolve_at<F: Names>(table: &NameTable, outputs: &mut [usize], j: usize) -> Option<usize>
-    requires j_in_bounds { (j * 5 + 5 ≤ length outputs.old) × ((output_word outputs.old j).start + (output_word outputs.old j).len ≤ length table.now.text.now) }
-    ensures value { result ≡ find F.constants table.now.text.now (output_word outputs.old j) (entries table.now.names.now table.now.count) }
-    ensures outputs_after { outputs.new ≡ put_wire outputs.old j result }
+    requires j_in_area { j * 5 + 5 ≤ length outputs.old }
+    requires word_in_text { let w = output_word outputs.old j in w.start + w.len ≤ length table.now.text.now }
+    ensures wire { result ≡ find F.constants table.now.text.now (output_word outputs.old j) (entries_of table.now) }
+    ensures stored { outputs.new ≡ put_wire outputs.old j result }
 {
     let base = j * 5;
     let word = Word {
@@ -60,8 +60,9 @@ pub fn resolve_outputs<F: Names>(
     outputs: &mut [usize],
     n: usize,
 ) -> Result<(), Refusal>
-    requires words_kept { WordsKept table.now.text.now outputs.old n }
-    ensures { Resolved F.constants table.now.text.now (entries table.now.names.now table.now.count) (words_of outputs.old n) result outputs.new n }
+    requires { WordsHold table.now.text.now outputs.old n }
+    ensures { Resolved F.constants table.now.text.now (entries_of table.now) (words_of outputs.old n)
+        result outputs.new n }
 {
     for j in 0..n {
         resolve_at::<F>(table, outputs, j).ok_or(Refusal::NoDriver)?;

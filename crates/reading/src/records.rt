@@ -1,11 +1,11 @@
 // The nodes and names of a circuit as it is read: a record more, or the refusal.
-ghost use Rattle.std.specs.Prelude.{◌≡◌, ◌+◌, ◌≤◌, ◌<◌, ◌^◌, length, IfOk, OnErr};
-ghost use Rattle.laws.specs.Areas.{capacity};
-ghost use Rattle.circuit.specs.Records.{wire_word, nodes_of};
+ghost use Rattle.std.specs.Prelude.{◌≡◌, ◌+◌, ◌≤◌, ◌<◌, ◌^◌, length};
+ghost use Rattle.std.specs.Result.{result_unwrap_or};
+ghost use Rattle.circuit.specs.Records.{wire_word};
 ghost use Rattle.circuit.specs.declared.records.Name.TheVariants.{Stretch};
-ghost use Rattle.names.specs.Chains.{entries, Table};
-ghost use Rattle.reading.specs.Reading.{places_in, add_name, add_node, add_named, input_node, add_input};
-ghost use Rattle.reading.specs.Holding.{outcome, held_of, NodesKept, Kept, KeptForSome};
+ghost use Rattle.names.specs.Chains.{Table};
+ghost use Rattle.reading.specs.Reading.{add_name, add_node, add_named, input_node, add_input};
+ghost use Rattle.reading.specs.Holding.{NodesHold, NamedNodesHold, NamedNodesHoldAfter, NamesStep, NodesStep, HeldStep};
 
 use crate::format::Names;
 use circuit::areas::{put_node, records_in};
@@ -29,6 +29,7 @@ pub struct Reading {
 }
 
 // A name for the word of a wire: how many names there are then. `add_node` and `outputs::add_output` share with it the test for room alone: what each stores, and in what, is its own.
+#[tactic(auto, using(crate::proofs::Steps::name_full, crate::proofs::Steps::name_added))]
 pub fn add_name(
     text: &[u8],
     word: Word,
@@ -38,10 +39,9 @@ pub fn add_name(
     names: &mut [usize],
 ) -> Result<usize, Refusal>
     requires table { Table text.now heads.old names.old count }
-    requires len_in_bounds { word.start + word.len ≤ length text.now }
-    ensures table_2 { IfOk result (λ n. Table text.now heads.new names.new n) }
-    ensures table_refused { OnErr result (Table text.now heads.new names.new count) }
-    ensures count_after { outcome (λ n. entries names.new n) result ≡ add_name (capacity 4 (length names.old)) word wire (entries names.old count) }
+    requires word_in_text { word.start + word.len ≤ length text.now }
+    ensures table { Table text.now heads.new names.new (result_unwrap_or result count) }
+    ensures step { NamesStep (λ room. add_name room word wire) names.old count names.new result }
 {
     if records_in(names.len(), 4) <= count {
         return Err(Refusal::NoRoom);
@@ -51,12 +51,12 @@ pub fn add_name(
 }
 
 // A node more: how many there are then.
+#[tactic(auto, using(crate::proofs::Steps::node_full, crate::proofs::Storing::room_of))]
 pub fn add_node(node: BoolNode, count: usize, nodes: &mut [usize]) -> Result<usize, Refusal>
-    requires nodes_kept { NodesKept nodes.old count }
-    requires first_bound { (wire_word node.first < 2 ^ 64) × (wire_word node.second < 2 ^ 64) }
-    ensures nodes_kept_2 { IfOk result (λ n. NodesKept nodes.new n) }
-    ensures nodes_refused { OnErr result (NodesKept nodes.new count) }
-    ensures count_after { outcome (λ n. nodes_of nodes.new n) result ≡ add_node (capacity 9 (length nodes.old)) node (nodes_of nodes.old count) }
+    requires area { NodesHold nodes.old count }
+    requires wires_fit { (wire_word node.first < 2 ^ 64) × (wire_word node.second < 2 ^ 64) }
+    ensures area { NodesHold nodes.new (result_unwrap_or result count) }
+    ensures step { NodesStep (λ room. add_node room node) nodes.old count nodes.new result }
 {
     if records_in(nodes.len(), 9) <= count {
         return Err(Refusal::NoRoom);
@@ -66,7 +66,8 @@ pub fn add_node(node: BoolNode, count: usize, nodes: &mut [usize]) -> Result<usi
 }
 
 // A node and its name.
-// The areas travel one by one, with `Kept`: in a struct over them each function up to the reader would promise that its references are still the same ones.
+// The areas travel one by one, with `NamedNodesHold`: in a struct over them each function up to the reader would promise that its references are still the same ones.
+#[tactic(auto, using(circuit::proofs::Codes::length_nodes), unfolding(crate::specs::Reading::add_named))]
 pub fn add_named(
     text: &[u8],
     word: Word,
@@ -76,12 +77,11 @@ pub fn add_named(
     nodes: &mut [usize],
     names: &mut [usize],
 ) -> Result<Counts, Refusal>
-    requires kept { Kept text.now heads.old nodes.old names.old counts }
-    requires len_in_bounds { word.start + word.len ≤ length text.now }
-    requires first_bound { (wire_word node.first < 2 ^ 64) × (wire_word node.second < 2 ^ 64) }
-    ensures kept_2 { IfOk result (λ c. Kept text.now heads.new nodes.new names.new c) }
-    ensures kept_refused { OnErr result (KeptForSome text.now heads.new nodes.new names.new) }
-    ensures counts_after { outcome (λ c. held_of nodes.new names.new c) result ≡ add_named (places_in (length nodes.old) (length names.old) 0) word node (held_of nodes.old names.old counts) }
+    requires areas { NamedNodesHold text.now heads.old nodes.old names.old counts }
+    requires word_in_text { word.start + word.len ≤ length text.now }
+    requires wires_fit { (wire_word node.first < 2 ^ 64) × (wire_word node.second < 2 ^ 64) }
+    ensures areas { NamedNodesHoldAfter text.now heads.new nodes.new names.new result }
+    ensures step { HeldStep (λ p. add_named p word node) nodes.old names.old counts nodes.new names.new result }
 {
     let n = add_node(node, counts.nodes, nodes)?;
     let m = add_name(text, word, counts.nodes + 2, counts.names, heads, names)?;
@@ -106,6 +106,7 @@ pub fn input_node(word: Word) -> BoolNode
 }
 
 // A declared input: 4, 3.
+#[tactic(auto, unfolding(crate::specs::Reading::add_input))]
 pub fn add_input<F: Names>(
     text: &[u8],
     word: Word,
@@ -114,11 +115,11 @@ pub fn add_input<F: Names>(
     nodes: &mut [usize],
     names: &mut [usize],
 ) -> Result<Counts, Refusal>
-    requires kept { Kept text.now heads.old nodes.old names.old counts }
-    requires len_in_bounds { word.start + word.len ≤ length text.now }
-    ensures kept_2 { IfOk result (λ c. Kept text.now heads.new nodes.new names.new c) }
-    ensures kept_refused { OnErr result (KeptForSome text.now heads.new nodes.new names.new) }
-    ensures counts_after { outcome (λ c. held_of nodes.new names.new c) result ≡ add_input F.constants text.now (places_in (length nodes.old) (length names.old) 0) word (held_of nodes.old names.old counts) }
+    requires areas { NamedNodesHold text.now heads.old nodes.old names.old counts }
+    requires word_in_text { word.start + word.len ≤ length text.now }
+    ensures areas { NamedNodesHoldAfter text.now heads.new nodes.new names.new result }
+    ensures step { HeldStep (λ p. add_input F.constants text.now p word)
+        nodes.old names.old counts nodes.new names.new result }
 {
     let table = NameTable {
         text,

@@ -15,7 +15,7 @@ loop-k-init c =
     let number = ap enumerate_count same ∙ c.enumerate-k-items.ensures.count in
     let source = ap enumerate_source same ∙ c.enumerate-k-items.ensures.source in
     let few = ap length c.arguments_of.ensures.all in
-    rw (source, number) ((tt, tt, inl (rw c.skip.ensures.source (omega (arith, few, argument_count t.text.now c.args.plan.inside c.requires.inside_in_bounds)))), tt, stepping_start c.requires.inside_in_bounds c.requires.nodes_kept _ c.arguments_of.ensures.all _ c.skip.ensures.source c.skip.ensures.count)
+    rw (source, number) ((tt, tt, inl (rw c.skip.ensures.source (omega (arith, few, argument_count t.text.now c.args.plan.inside c.requires.inside_in_text)))), tt, stepping_start c.requires.inside_in_text c.requires.area _ c.arguments_of.ensures.all _ c.skip.ensures.source c.skip.ensures.count)
 
 pub argument_wire-requires : goal.argument_wire-requires
 argument_wire-requires c =
@@ -29,7 +29,7 @@ returns-in_err-wire c =
 pub returns-in_err-chained : goal.returns-in_err-chained
 returns-in_err-chained c =
     let p = err_from_is_err_and c.from_residual-in_err-chained.result c.from_residual-in_err-chained.ensures.1 in
-    rw (p.1, p.2) (stepping_refused c.loop-k.invariant.2 _ _ c.in-Some.ensures.steps.0 c.in_ok-wire.wire c.in_ok-wire.ensures c.chain_step.new.nodes _ (rw (c.in-Some.ensures.steps.1, c.loop-k.auto.nodes) at c.in_err-chained.ensures.nodes_after) c.in_err-chained.ensures.nodes_refused)
+    rw (p.1, p.2) (stepping_refused c.loop-k.invariant.2 _ _ c.in-Some.ensures.steps.0 c.in_ok-wire.wire c.in_ok-wire.ensures c.chain_step.new.nodes _ (rw (c.in-Some.ensures.steps.1, c.loop-k.auto.nodes) at c.in_err-chained.ensures.step) c.in_err-chained.ensures.area)
 
 pub returns : goal.returns
 returns c =

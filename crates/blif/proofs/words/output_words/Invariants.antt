@@ -5,7 +5,7 @@ use Rattle.laws.specs.Stretches.{All}
 use Rattle.text.specs.Words.{IsWord}
 use Rattle.text.specs.Iterators.{words_left}
 use Rattle.reading.specs.Reading.{add_output, each}
-use Rattle.reading.specs.Holding.{words_of, WordsKept}
+use Rattle.reading.specs.Holding.{words_of, WordsHold}
 use Rattle.blif.proofs.words.output_words.Given as goal
 
 abbrev pub invariant-loop-word : goal.invariant-loop-word
@@ -15,5 +15,5 @@ invariant-loop-word l =
     × (goal.iterator-loop-word).is_finite l.word-iterator
     × (length l.outputs ≡ length l.initial.outputs)
     × All (IsWord l.text l.fn.words.at l.fn.words.end) (words_left l.word-iterator)
-    × WordsKept l.text l.outputs l.n
+    × WordsHold l.text l.outputs l.n
     × (each step (words_left l.word-iterator) (words_of l.outputs l.n) ≡ each step (words_left l.fn.words) (words_of l.initial.outputs l.count))
