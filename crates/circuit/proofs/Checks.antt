@@ -3,14 +3,13 @@
 use Rattle.std.specs.Prelude.{Err, Ok}
 use mathlib.Core.Path.{◌≡◌, refl, sym, ap, ap₂, ◌∙◌, subst}
 use mathlib.Core.List.{List, [], ◌∷◌}
-use mathlib.Core.Bool.{Bool, true, false, cond, ◌&&◌, ◌||◌}
-use Prim.Native.Nat.{ℕ, zero, suc, ◌+◌, ◌-◌, ◌/◌, ◌%◌, ◌≤◌, ◌<◌, min}
+use mathlib.Core.Bool.{Bool, true, false, ◌||◌}
+use Prim.Native.Nat.{ℕ, zero, suc, ◌+◌, ◌-◌, ◌/◌, ◌%◌, ◌≤◌, ◌<◌}
 use native.Mathlib.Nat.{zero-add}
 use native.Mathlib.Numerals.{add-one}
 use native.Mathlib.Omega.{arith}
-use lib.Dec.{leb}
-use borrow.Author.Tests.{eq-eqb, ne_eqb, le-leb, lt-leb, leb-false}
-use lib.ListN.{length, get_or, take, drop, drop_of_length-le, length-take}
+use borrow.Author.Tests.{eq-eqb, ne_eqb, lt-leb, leb-false}
+use lib.ListN.{length, get_or, take, drop, drop_of_length-le}
 use lib.Seq.{drop-cons}
 use Rattle.laws.specs.Areas.{up_from}
 use Rattle.laws.proofs.Areas.{up_start, up_more, up_none}
@@ -22,8 +21,9 @@ use Rattle.circuit.specs.declared.records.BoolWire.{BoolWire}
 use Rattle.circuit.specs.declared.records.BoolWire.TheVariants.{Const, Node}
 use Rattle.circuit.specs.declared.records.BoolNode.{BoolNode}
 use Rattle.circuit.specs.Refusals.{refuse_if, first_fault}
-use Rattle.circuit.specs.Records.{no_wire, no_node, node_at, nodes_of, is_cell_node, slots, wires_of}
-use Rattle.circuit.specs.Check.{cell_broken, record_broken, not_below, some_not_below, check_wires, check_node, check_nodes, check_circuit, some_broken, circuit_broken, whole, nodes_in, wires_in, topological_fault, records_fault}
+use Rattle.circuit.specs.Records.{no_wire, no_node, node_at, nodes_of, is_cell_node, places, wires_of}
+use Rattle.circuit.specs.declared.records.TheConstants.{CELL, NODE_WORDS, OUTPUT_WORDS}
+use Rattle.circuit.specs.Check.{record_broken, not_below, some_not_below, check_wires, check_node, check_nodes, check_circuit, some_broken, circuit_broken, whole, nodes_in, wires_in, topological_fault, records_fault}
 use Rattle.circuit.proofs.Codes.{length_nodes}
 
 -- ---- the first fault of two checks
@@ -42,49 +42,13 @@ not_refused false e q = refl
 -- ---- the wires of a node
 
 module _ (n : BoolNode) where
-  pub cell_wires : n.kind ≡ 2 → wires_of n ≡ take n.count (slots n)
+  pub cell_wires : n.kind ≡ CELL → wires_of n ≡ take n.count (places n.wires)
   unfolding wires_of is_cell_node
-  cell_wires e = rw (eq-eqb n.kind 2 e)
+  cell_wires e = rw (eq-eqb n.kind CELL e)
 
-  pub no-wires : (n.kind ≡ 2 → ⊥) → wires_of n ≡ []
+  pub no-wires : (n.kind ≡ CELL → ⊥) → wires_of n ≡ []
   unfolding wires_of is_cell_node
-  no-wires e = rw (ne_eqb n.kind 2 e)
-
-  pub few_wires : n.kind ≡ 2 → min n.count 2 ≡ length (wires_of n)
-  few_wires e = rw (cell_wires e) (simp length-take (omega arith))
-
-  pub wire_first : (k : ℕ) → k < length (wires_of n) → k ≡ 0 → n.first ≡ get_or (wires_of n) k no_wire
-  unfolding wires_of
-  wire_first k h e = rw e (go (is_cell_node n) n.count (subst (λ (x : ℕ). x < length (wires_of n)) e h))
-    where
-      go : (t : Bool) (m : ℕ) → 0 < length (cond t (take m (slots n)) []) → n.first ≡ get_or (cond t (take m (slots n)) []) 0 no_wire
-      go false m l = absurd (omega arith)
-      go true zero l = absurd (omega arith)
-      go true (suc m) l = refl
-
-  pub wire_second : (k : ℕ) → k < length (wires_of n) → (k ≡ 0 → ⊥) → n.second ≡ get_or (wires_of n) k no_wire
-  unfolding wires_of
-  wire_second k h e = go (is_cell_node n) n.count k h e
-    where
-      go : (t : Bool) (m j : ℕ) → j < length (cond t (take m (slots n)) []) → (j ≡ 0 → ⊥) → n.second ≡ get_or (cond t (take m (slots n)) []) j no_wire
-      go t m zero l z = absurd (z refl)
-      go false m (suc j) l z = absurd (omega arith)
-      go true zero (suc j) l z = absurd (omega arith)
-      go true (suc zero) (suc j) l z = absurd (omega arith)
-      go true (suc (suc m)) (suc zero) l z = refl
-      go true (suc (suc zero)) (suc (suc j)) l z = absurd (omega arith)
-      go true (suc (suc (suc m))) (suc (suc j)) l z = absurd (omega arith)
-
--- a cell without exactly one or two wires
-pub wrong_count : (n : BoolNode) → (n.kind ≡ 1 → ⊥) → n.kind ≡ 2 → (n.count ≡ 1 → ⊥) → (n.count ≡ 2 → ⊥) → true ≡ record_broken n
-unfolding record_broken cell_broken
-wrong_count n a b p q = rw (ne_eqb _ _ a, eq-eqb _ _ b, outside n.count p q)
-  where
-    outside : (k : ℕ) → (k ≡ 1 → ⊥) → (k ≡ 2 → ⊥) → leb 1 k && leb k 2 ≡ false
-    outside zero x y = refl
-    outside (suc zero) x y = absurd (x refl)
-    outside (suc (suc zero)) x y = absurd (y refl)
-    outside (suc (suc (suc k))) x y = rw (le-leb 1 (suc (suc (suc k))) (omega arith), lt-leb (suc (suc (suc k))) 2 (omega arith))
+  no-wires e = rw (ne_eqb n.kind CELL e)
 
 -- ---- the scan of a node's wires
 
@@ -104,6 +68,17 @@ module _ (m i : ℕ) (ws : List BoolWire) (k : ℕ) where
   pub wires_passed : length ws ≤ k → check_wires m i (drop k ws) ≡ Ok tt
   unfolding check_wires
   wires_passed h = rw (drop_of_length-le ws h)
+
+-- ---- the record, then the wires
+
+module _ (m i : ℕ) (n : BoolNode) where
+  pub record_fault : record_broken n ≡ true → check_node m i n ≡ Err Broken
+  unfolding check_node
+  record_fault e = rw e
+
+  pub record_passed : record_broken n ≡ false → check_node m i n ≡ check_wires m i (wires_of n)
+  unfolding check_node
+  record_passed e = rw e
 
 -- ---- the scan of the nodes
 
@@ -133,9 +108,9 @@ module _ (a : List ℕ) (m i : ℕ) (h : i < m) (n : BoolNode) (e : n ≡ node_a
 
 -- ---- the checks over the areas
 
-pub is_whole : (nodes outputs : List ℕ) → length nodes % 9 ≡ 0 → length outputs % 5 ≡ 0 → whole nodes outputs ≡ true
+pub is_whole : (nodes outputs : List ℕ) → length nodes % NODE_WORDS ≡ 0 → length outputs % OUTPUT_WORDS ≡ 0 → whole nodes outputs ≡ true
 unfolding whole
-is_whole nodes outputs n o = rw (eq-eqb (length nodes % 9) 0 n, eq-eqb (length outputs % 5) 0 o)
+is_whole nodes outputs n o = rw (eq-eqb (length nodes % NODE_WORDS) 0 n, eq-eqb (length outputs % OUTPUT_WORDS) 0 o)
 
 module _ (nodes outputs : List ℕ) where
   pub topological_partial : whole nodes outputs ≡ false → Err Broken ≡ topological_fault nodes outputs
@@ -147,14 +122,14 @@ module _ (nodes outputs : List ℕ) where
   records_partial e = rw e
 
   pub topological_whole : whole nodes outputs ≡ true
-      → topological_fault nodes outputs ≡ first_fault (check_nodes (length nodes / 9) 0 (nodes_in nodes)) (refuse_if (some_not_below (length nodes / 9) (wires_in outputs)) Broken)
+      → topological_fault nodes outputs ≡ first_fault (check_nodes (length nodes / NODE_WORDS) 0 (nodes_in nodes)) (refuse_if (some_not_below (length nodes / NODE_WORDS) (wires_in outputs)) Broken)
   unfolding topological_fault check_circuit
-  topological_whole e = rw (e, length_nodes nodes (length nodes / 9))
+  topological_whole e = rw (e, length_nodes nodes (length nodes / NODE_WORDS))
 
   pub records_whole : whole nodes outputs ≡ true
-      → records_fault nodes outputs ≡ refuse_if (some_broken (length nodes / 9) (nodes_in nodes) || some_not_below (length nodes / 9) (wires_in outputs)) Broken
+      → records_fault nodes outputs ≡ refuse_if (some_broken (length nodes / NODE_WORDS) (nodes_in nodes) || some_not_below (length nodes / NODE_WORDS) (wires_in outputs)) Broken
   unfolding records_fault circuit_broken
-  records_whole e = rw (e, length_nodes nodes (length nodes / 9))
+  records_whole e = rw (e, length_nodes nodes (length nodes / NODE_WORDS))
 
 -- ---- what the check's acceptance tells
 

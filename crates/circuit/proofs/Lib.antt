@@ -1,3 +1,5 @@
+pub mod Places
+pub mod Rules
 pub mod Codes
 pub mod Checks
 pub mod Circuits

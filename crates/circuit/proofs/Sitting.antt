@@ -4,20 +4,25 @@ use Rattle.std.specs.Prelude.{Ok}
 use mathlib.Core.Path.{◌≡◌, refl, subst}
 use mathlib.Core.List.{List, [], ◌∷◌, ◌++◌}
 use mathlib.Core.Bool.{false}
-use Prim.Native.Nat.{ℕ, zero, suc, ◌+◌, ◌≤◌, ◌<◌}
+use Prim.Native.Nat.{ℕ, zero, suc, ◌+◌, ◌^◌, ◌≤◌, ◌<◌}
 use native.Mathlib.Nat.{add-zero}
 use native.Mathlib.Omega.{arith}
-use borrow.Author.Tests.{eq-eqb, ne_eqb, lt-leb}
-use lib.ListN.{length}
+use borrow.Author.Tests.{le-leb, lt-leb}
+use lib.ListN.{length, get_or}
 use Rattle.std.proofs.lemmas.Bool.{or_parts}
 use Rattle.circuit.specs.declared.records.BoolWire.{BoolWire}
 use Rattle.circuit.specs.declared.records.BoolNode.{BoolNode}
-use Rattle.circuit.specs.Records.{wire_of, wires_of}
+use Rattle.circuit.specs.declared.records.Name.{Name}
+use Rattle.circuit.specs.declared.records.TheConstants.{WIRES}
+use Rattle.circuit.specs.Records.{wire_of, wires_of, is_cell_node, input_node, cell_node, no_node}
 use Rattle.circuit.specs.Check.{cell_broken, record_broken, not_below, some_not_below, check_wires, check_node, check_nodes, check_circuit}
-use Rattle.circuit.proofs.Checks.{all_below_more, cell_wires, no-wires}
+use Rattle.circuit.proofs.Checks.{all_below_more}
+use Rattle.circuit.proofs.Places.{wires_of_cell}
+use Rattle.circuit.proofs.Codes.{Placed, input_placed, cell_placed}
 
--- a node that keeps the rules and reads only nodes before place i
+-- a node that keeps the rules and reads only nodes before place i, with a wire in each place of its record
 pub record Sits (i : ℕ) (n : BoolNode) : Type 0 where
+  pub placed : Placed n
   pub rules : record_broken n ≡ false
   pub earlier : some_not_below i (wires_of n) ≡ false
 
@@ -29,6 +34,11 @@ AllSit i (n ∷ ns) = Sits i n × AllSit (suc i) ns
 pub sit_more : (i : ℕ) (ns : List BoolNode) (n : BoolNode) → AllSit i ns → Sits (i + length ns) n → AllSit i (ns ++ (n ∷ []))
 sit_more i [] n h s = (subst (λ (k : ℕ). Sits k n) (add-zero i) s, tt)
 sit_more i (x ∷ xs) n h s = (h.0, sit_more (suc i) xs n h.1 (subst (λ (k : ℕ). Sits k n) (omega arith) s))
+
+pub each_placed : (i : ℕ) (ns : List BoolNode) → AllSit i ns → (k : ℕ) → k < length ns → Placed (get_or ns k no_node)
+each_placed i [] h k l = absurd (omega arith)
+each_placed i (n ∷ ns) h zero l = h.0.placed
+each_placed i (n ∷ ns) h (suc k) l = each_placed (suc i) ns h.1 k (omega arith)
 
 -- ---- the check accepts them
 
@@ -59,24 +69,16 @@ word_below m zero h = refl
 word_below m (suc zero) h = refl
 word_below m (suc (suc k)) h = lt-leb m k (omega arith)
 
-pub input_sits : (i : ℕ) (n : BoolNode) → n.kind ≡ 1 → Sits i n
-unfolding record_broken
-input_sits i n e = record {
-  rules = rw (eq-eqb n.kind 1 e);
-  earlier = let two : n.kind ≡ 2 → ⊥ = λ z. omega (arith, e, z) in rw (no-wires n two);
+pub input_sits : (i : ℕ) (name : Name) → Sits i (input_node name)
+unfolding record_broken input_node wires_of is_cell_node
+input_sits i name = record { placed = input_placed name; rules = refl; earlier = refl }
+
+-- a cell on wires of earlier nodes, of which a record has places for each, with a table of no more entries than they pick
+pub cell_sits : (i : ℕ) (name : Name) (t : ℕ) (ws : List BoolWire) → 1 ≤ length ws → length ws ≤ WIRES → t < 2 ^ 2 ^ length ws → some_not_below i ws ≡ false
+    → Sits i (cell_node name t ws)
+unfolding record_broken cell_broken cell_node
+cell_sits i name t ws l h b e = record {
+  placed = cell_placed name t ws;
+  rules = rw (le-leb 1 (length ws) l, le-leb (length ws) WIRES h) (lt-leb (2 ^ 2 ^ length ws) t b);
+  earlier = rw (wires_of_cell name t ws h, e);
 }
-
-module _ (i : ℕ) (n : BoolNode) (cell : n.kind ≡ 2) (a : not_below i n.first ≡ false) where
-  pub one_sits : n.count ≡ 1 → n.table < 4 → Sits i n
-  unfolding record_broken cell_broken
-  one_sits e t = record {
-    rules = rw (ne_eqb n.kind 1 (λ z. omega (arith, cell, z)), eq-eqb n.kind 2 cell, e) (lt-leb 4 n.table t);
-    earlier = rw (cell_wires n cell, e, a);
-  }
-
-  pub two_sits : n.count ≡ 2 → n.table < 16 → not_below i n.second ≡ false → Sits i n
-  unfolding record_broken cell_broken
-  two_sits e t b = record {
-    rules = rw (ne_eqb n.kind 1 (λ z. omega (arith, cell, z)), eq-eqb n.kind 2 cell, e) (lt-leb 16 n.table t);
-    earlier = rw (cell_wires n cell, e, a, b);
-  }

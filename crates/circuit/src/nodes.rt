@@ -1,10 +1,13 @@
-// The records of a lent area: nodes of nine words, outputs of five.
+// The records of a lent area: nodes and outputs.
 ghost use Rattle.std.specs.Prelude.{◌≡◌, ◌*◌, ◌/◌, ◌<◌, ◌≤◌, length};
 ghost use Rattle.circuit.specs.Records.{node_at, output_at, output_wire, is_cell_node};
 
-use crate::records::{BoolNode, BoolWire, Name, Output};
+use crate::records::{
+    BoolNode, BoolWire, CELL, COUNT_AT, NAME_AT, NAME_LEN, NODE_WORDS, Name, OUTPUT_WORDS, Output,
+    TABLE_AT, WIRES, WIRES_AT,
+};
 
-// So many records of WIDTH words each, at the front of an area.
+/// So many records of WIDTH words each, at the front of an area.
 #[derive(Clone, Copy)]
 pub struct Records<'a, const WIDTH: usize> {
     pub words: &'a [usize],
@@ -12,12 +15,12 @@ pub struct Records<'a, const WIDTH: usize> {
     ghost whole: { count * WIDTH ≤ length words.now },
 }
 
-pub type Nodes<'a> = Records<'a, 9>;
+pub type Nodes<'a> = Records<'a, NODE_WORDS>;
 
-pub type Outputs<'a> = Records<'a, 5>;
+pub type Outputs<'a> = Records<'a, OUTPUT_WORDS>;
 
 impl<'a, const WIDTH: usize> Records<'a, WIDTH> {
-    // All whole records of the area.
+    /// All whole records of the area.
     pub fn of(words: &'a [usize]) -> Records<'a, WIDTH>
         requires { 0 < WIDTH }
         ensures { (result.words.now ≡ words.now) × (result.count ≡ length words.now / WIDTH) }
@@ -29,45 +32,48 @@ impl<'a, const WIDTH: usize> Records<'a, WIDTH> {
     }
 }
 
-impl<'a> Records<'a, 9> {
-    // Node i.
+impl<'a> Records<'a, NODE_WORDS> {
+    /// Node i.
     pub fn at(self, i: usize) -> BoolNode
         requires { i < self.count }
         ensures { result ≡ node_at self.entry.words.now i }
     {
-        let b = i * 9;
+        let b = i * NODE_WORDS;
+        let mut wires = [BoolWire::Const(false); WIRES];
+        for (k, wire) in wires.iter_mut().enumerate() {
+            *wire = BoolWire::from(self.words[b + WIRES_AT + k]);
+        }
         BoolNode {
             kind: self.words[b],
-            count: self.words[b + 1],
-            table: self.words[b + 2],
+            count: self.words[b + COUNT_AT],
+            table: self.words[b + TABLE_AT],
             name: Name::from([
-                self.words[b + 3],
-                self.words[b + 4],
-                self.words[b + 5],
-                self.words[b + 6],
+                self.words[b + NAME_AT],
+                self.words[b + NAME_AT + 1],
+                self.words[b + NAME_AT + 2],
+                self.words[b + NAME_AT + 3],
             ]),
-            first: BoolWire::from(self.words[b + 7]),
-            second: BoolWire::from(self.words[b + 8]),
+            wires,
         }
     }
 
-    // Node i is a cell.
-    #[tactic(auto, unfolding(crate::specs::Records::is_cell_node))]
+    /// Node i is a cell.
+    #[tactic(auto, unfolding(crate::specs::Records::is_cell_node, crate::specs::Records::node_from))]
     pub fn is_cell(self, i: usize) -> bool
         requires { i < self.count }
         ensures { result ≡ is_cell_node (node_at self.entry.words.now i) }
     {
-        self.words[i * 9] == 2
+        self.words[i * NODE_WORDS] == CELL
     }
 }
 
-impl<'a> Records<'a, 5> {
-    // Output j.
+impl<'a> Records<'a, OUTPUT_WORDS> {
+    /// Output j.
     pub fn at(self, j: usize) -> Output
         requires { j < self.count }
         ensures { result ≡ output_at self.entry.words.now j }
     {
-        let b = j * 5;
+        let b = j * OUTPUT_WORDS;
         Output {
             name: Name::from([
                 self.words[b],
@@ -79,11 +85,11 @@ impl<'a> Records<'a, 5> {
         }
     }
 
-    // The wire of output j.
+    /// The wire of output j.
     pub fn wire(self, j: usize) -> BoolWire
         requires { j < self.count }
         ensures { result ≡ output_wire self.entry.words.now j }
     {
-        BoolWire::from(self.words[j * 5 + 4])
+        BoolWire::from(self.words[j * OUTPUT_WORDS + NAME_LEN])
     }
 }

@@ -3,14 +3,15 @@
 use mathlib.Core.Path.{◌≡◌, refl, sym, ap, ap₂, ◌∙◌}
 use mathlib.Core.Bool.{Bool, true, false, cond}
 use mathlib.Core.List.{List, [], ◌∷◌, ◌++◌, append_assoc}
-use Prim.Native.Nat.{ℕ, suc, ◌+◌, ◌-◌, ◌<◌}
+use Prim.Native.Nat.{ℕ, suc, ◌+◌, ◌-◌, ◌<◌, ◌≤◌}
 use native.Mathlib.Numerals.{add-one}
 use native.Mathlib.Omega.{arith}
 use lib.Dec.{ltb}
 use borrow.Author.Tests.{ltb-true, ltb-false}
-use lib.ListN.{length, get_or, set, take, drop, replicate, length-append, length-replicate, get_or-replicate, get_or-append, get_or-eq_default}
+use lib.ListN.{length, get_or, set, take, drop, replicate, length-append, length-replicate, get_or-replicate, get_or-append, get_or-eq_default, drop_of_length-le}
 use lib.Seq.{drop-cons, take-suc, set_at, length-take-le, get_or-append_seam}
-use Rattle.std.proofs.lemmas.List.{drop-replicate}
+use Rattle.std.proofs.lemmas.List.{drop-replicate, take_all}
+use Rattle.std.proofs.Common.{append-nil}
 
 -- ---- a choice
 
@@ -44,12 +45,17 @@ pub take_next : (l : List ℕ) (i : ℕ) → i < length l → take i l ++ get_or
 take_next l i h = sym (take-suc l i 0 h) ∙ ap (λ (k : ℕ). take k l) (sym (add-one i))
 
 -- the next element of the full list is stored
-pub fill_next : (full a : List ℕ) (j : ℕ) → j < length full → j < length a → set (take j full ++ drop j a) j (get_or full j 0) ≡ take (j + 1) full ++ drop (j + 1) a
-fill_next full a j h g =
-    ap (λ (l : List ℕ). set (take j full ++ l) j (get_or full j 0)) (drop-cons a j 0 g)
-    ∙ set_at (take j full) (get_or a j 0) (drop (suc j) a) (get_or full j 0) j (length-take-le j full (omega arith))
-    ∙ sym (append_assoc (take j full) (get_or full j 0 ∷ []) (drop (suc j) a))
-    ∙ ap₂ (λ (x : List ℕ) (k : ℕ). x ++ drop k a) (take_next full j h) (sym (add-one j))
+pub fill_next : {A : Type 0} (d : A) (full a : List A) (j : ℕ) → j < length full → j < length a
+    → set (take j full ++ drop j a) j (get_or full j d) ≡ take (j + 1) full ++ drop (j + 1) a
+fill_next d full a j h g =
+    ap (λ l. set (take j full ++ l) j (get_or full j d)) (drop-cons a j d g)
+    ∙ set_at (take j full) (get_or a j d) (drop (suc j) a) (get_or full j d) j (length-take-le j full (omega arith))
+    ∙ sym (append_assoc (take j full) (get_or full j d ∷ []) (drop (suc j) a))
+    ∙ ap₂ (λ x k. x ++ drop k a) (sym (take-suc full j d h) ∙ ap (λ (k : ℕ). take k full) (sym (add-one j))) (sym (add-one j))
+
+-- filled up to its end it is the full list
+pub fill_all : {A : Type 0} (full a : List A) (j : ℕ) → length full ≤ j → length a ≤ j → take j full ++ drop j a ≡ full
+fill_all full a j h g = ap₂ (λ x y. x ++ y) (take_all j full h) (drop_of_length-le a g) ∙ append-nil full
 
 -- what was zeros is zeros after what was filled in
 pub filled_zeros : (a b : List ℕ) (n count : ℕ) (full : List ℕ) → a ≡ full ++ drop count b → b ≡ replicate n 0 → a ≡ full ++ replicate (n - count) 0

@@ -1,6 +1,7 @@
 -- Areas of records of one width, one record after the other.
 -- Assumes nothing.
 use Rattle.std.specs.Prelude.{List, [], ◌∷◌, ◌++◌, ℕ, zero, suc, ◌+◌, ◌/◌, min, length, take, drop}
+use Rattle.laws.specs.declared.TheConstants.{MOST_RECORDS}
 
 -- the words of records, one after the other: std's `flat_map`, written out for a reader without std
 abbrev pub encodes : {A : Type 0} → (A → List ℕ) → List A → List ℕ
@@ -16,6 +17,6 @@ abbrev pub up_from : {A : Type 0} → (ℕ → A) → ℕ → ℕ → List A
 up_from f i zero = []
 up_from f i (suc m) = f i ∷ up_from f (suc i) m
 
--- "Areas for nodes, names, outputs and wires are used up to 1,048,576 records": how many records of a width an area of so many words takes
+-- How many records of a width an area of so many words takes: as many as fit, and no more than an area is used for.
 unfoldable pub capacity : ℕ → ℕ → ℕ
-capacity width words = min (words / width) 1048576
+capacity width words = min (words / width) MOST_RECORDS

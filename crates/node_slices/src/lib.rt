@@ -6,26 +6,41 @@ ghost use Rattle.std.specs.Prelude.{◌≡◌, length};
 ghost use Rattle.circuit.specs.Check.{check_nodes};
 ghost use Rattle.node_slices.specs.Slices.{slice_fault};
 
-use circuit::check::{check_node, output_outside};
+use circuit::check::{not_below, output_outside, record_broken};
 use circuit::nodes::Outputs;
-use circuit::records::BoolNode;
+use circuit::records::{BoolNode, OUTPUT_WORDS, wire_at, wire_count};
 use circuit::refusals::Refusal;
 
-// The nodes: the scan is left at the first fault.
+/// The nodes and their wires in turn: both scans are left at the first fault, Broken or NotEarlier.
 pub fn check_node_slice(nodes: &[BoolNode]) -> Result<(), Refusal>
     ensures { result ≡ check_nodes (length nodes.now) 0 nodes.now }
 {
-    for (i, &n) in nodes.iter().enumerate() {
-        check_node(n, nodes.len(), i)?;
+    let mut answer = Ok(());
+    'scan: for (i, &n) in nodes.iter().enumerate() {
+        if record_broken(n) {
+            answer = Err(Refusal::Broken);
+            break 'scan;
+        }
+        for k in 0..wire_count(n) {
+            let w = wire_at(n, k);
+            if not_below(w, nodes.len()) {
+                answer = Err(Refusal::Broken);
+                break 'scan;
+            }
+            if not_below(w, i) {
+                answer = Err(Refusal::NotEarlier);
+                break 'scan;
+            }
+        }
     }
-    Ok(())
+    answer
 }
 
-// The circuit check: the nodes are a slice of records, the outputs five words each.
+/// The circuit check over a slice of nodes, with the outputs as records in an area.
 pub fn check_circuit_slice(nodes: &[BoolNode], outputs: &[usize]) -> Result<(), Refusal>
     ensures { result ≡ slice_fault nodes.now outputs.now }
 {
-    if outputs.len() % 5 != 0 {
+    if outputs.len() % OUTPUT_WORDS != 0 {
         return Err(Refusal::Broken);
     }
     check_node_slice(nodes)?;

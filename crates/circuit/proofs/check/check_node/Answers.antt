@@ -12,7 +12,7 @@ returns-then-record_broken c = rw (sym c.record_broken.ensures ∙ c.if-record_b
 
 pub loop-k-init : goal.loop-k-init
 unfolding check_node
-loop-k-init c = (rw (sym c.record_broken.ensures ∙ c.if-record_broken.false), zero-le, c.wire_count-k-end.ensures)
+loop-k-init c = (rw (sym c.record_broken.ensures ∙ c.if-record_broken.false), zero-le, c.wire_count-k-end.ensures.0)
 
 pub returns-then-not_below : goal.returns-then-not_below
 returns-then-not_below c =

@@ -1,8 +1,12 @@
-use Rattle.circuit.proofs.Checks.{wire_first, wire_second}
+use Rattle.std.proofs.Common.{arith}
+use Rattle.circuit.proofs.Places.{few_wires, wire_is}
 use Rattle.circuit.proofs.records.wire_at.Goals as goal
 
-pub returns-then-k-eq0 : goal.returns-then-k-eq0
-returns-then-k-eq0 c = wire_first c.args.n c.args.k c.requires c.if-k-eq0.true
+pub bounds-n-k : goal.bounds-n-k
+bounds-n-k c = let f = few_wires c.args.n in omega (arith, f)
 
-pub returns-else-k-eq0 : goal.returns-else-k-eq0
-returns-else-k-eq0 c = wire_second c.args.n c.args.k c.requires c.if-k-eq0.false
+pub offset_bounds-n-k : goal.offset_bounds-n-k
+offset_bounds-n-k c = let f = few_wires c.args.n in record { fits = omega (arith, f) }
+
+pub returns : goal.returns
+returns c = wire_is c.args.n c.args.k c.requires

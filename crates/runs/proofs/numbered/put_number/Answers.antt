@@ -16,7 +16,7 @@ loop-p-preserved c =
     let size : length part ≡ c.args.n = length-take-le c.args.n c.args.assignment.now c.requires.1 in
     let below : c.loop-p.p < c.args.n = omega (arith, c.loop-p-test.true, size) in
     ap₂ (λ (x : List ℕ) (y : ℕ). set x c.loop-p.p y) c.loop-p.invariant (c.table_entry.ensures ∙ sym (numbered_at c.args.n c.args.number c.loop-p.p below))
-    ∙ fill_next full part c.loop-p.p (omega (arith, below, length-numbered c.args.n c.args.number)) (omega (arith, below, size))
+    ∙ fill_next 0 full part c.loop-p.p (omega (arith, below, length-numbered c.args.n c.args.number)) (omega (arith, below, size))
 
 pub returns : goal.returns
 returns c =

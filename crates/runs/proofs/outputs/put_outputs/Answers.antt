@@ -33,7 +33,7 @@ loop-j-preserved c =
     let size : length part ≡ n = length-take-le n c.args.answers.now c.requires.0 in
     let below : c.loop-j.j < n = omega (arith, c.loop-j-test.true, size) in
     let v : c.output_value.result ≡ get_or full c.loop-j.j 0 = c.output_value.ensures ∙ ap (signal_value s) c.wire.ensures ∙ sym (output-at s words n c.loop-j.j below) in
-    ap₂ (λ (x : List ℕ) (y : ℕ). set x c.loop-j.j y) c.loop-j.invariant v ∙ fill_next full part c.loop-j.j (omega (arith, below, length-outputs s words n)) (omega (arith, below, size))
+    ap₂ (λ (x : List ℕ) (y : ℕ). set x c.loop-j.j y) c.loop-j.invariant v ∙ fill_next 0 full part c.loop-j.j (omega (arith, below, length-outputs s words n)) (omega (arith, below, size))
 
 pub returns : goal.returns
 returns c =
