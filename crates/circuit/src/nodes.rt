@@ -1,6 +1,6 @@
 // The records of a lent area: nodes and outputs.
-ghost use Rattle.std.specs.Prelude.{◌≡◌, ◌*◌, ◌/◌, ◌<◌, ◌≤◌, length};
-ghost use Rattle.circuit.specs.Records.{node_at, output_at, output_wire, is_cell_node};
+ghost use Rattle.std.specs.Prelude.{◌≡◌, ◌*◌, ◌/◌, ◌<◌, ◌≤◌, length, get_or};
+ghost use Rattle.circuit.specs.Records.{node_at, output_at, output_wire, is_cell_node, wires_of, no_wire};
 
 use crate::records::{
     BoolNode, BoolWire, CELL, COUNT_AT, NAME_AT, NAME_LEN, NODE_WORDS, Name, OUTPUT_WORDS, Output,
@@ -64,6 +64,26 @@ impl<'a> Records<'a, NODE_WORDS> {
         ensures { result ≡ is_cell_node (node_at self.entry.words.now i) }
     {
         self.words[i * NODE_WORDS] == CELL
+    }
+
+    /// How many wires node i has.
+    pub fn wire_count(self, i: usize) -> usize
+        requires { i < self.count }
+        ensures { result ≡ length (wires_of (node_at self.entry.words.now i)) }
+    {
+        if self.is_cell(i) {
+            self.words[i * NODE_WORDS + COUNT_AT].min(WIRES)
+        } else {
+            0
+        }
+    }
+
+    /// Wire k of node i.
+    pub fn wire(self, i: usize, k: usize) -> BoolWire
+        requires { (i < self.count) × (k < length (wires_of (node_at self.words.now i))) }
+        ensures { result ≡ get_or (wires_of (node_at self.entry.words.now i)) k no_wire }
+    {
+        BoolWire::from(self.words[i * NODE_WORDS + WIRES_AT + k])
     }
 }
 

@@ -4,8 +4,10 @@ ghost use Rattle.laws.specs.Stretches.{All};
 ghost use Rattle.circuit.specs.declared.records.BoolWire.TheVariants.{Node};
 ghost use Rattle.circuit.specs.Records.{wire_word, HasWord, wire_of, name_words, name_from, encode_node, input_node, cell_node, encode_output, wires_of, no_wire};
 
-/// The most wires of a cell, and the places for wires in every node record.
-pub const WIRES: usize = 2;
+use graphs::READS;
+
+/// The most wires of a cell, and the places for wires in every node record: as many as a node has reads.
+pub const WIRES: usize = READS;
 
 /// The kind of an input, the first word of its record.
 pub const INPUT: usize = 1;

@@ -18,7 +18,8 @@ use Rattle.circuit.specs.Refusals.{Checked}
 use Rattle.circuit.specs.Refusals.{refuse_if, first_fault}
 use Rattle.circuit.specs.Records.{no_node, encode_node, nodes_of}
 use Rattle.circuit.specs.Check.{some_not_below, check_node, check_nodes, check_circuit, whole, nodes_in, wires_in, topological_fault}
-use Rattle.circuit.proofs.Codes.{node_wide, nodes_of_area}
+use Rattle.circuit.specs.declared.records.TheConstants.{NODE_WORDS, OUTPUT_WORDS}
+use Rattle.circuit.proofs.Codes.{Placed, node_wide, nodes_of_area}
 use Rattle.node_slices.specs.Slices.{slice_fault}
 
 -- ---- the scan: what the nodes from i on give
@@ -45,32 +46,32 @@ module _ (ns : List BoolNode) (m i : ℕ) where
 
 -- the nodes' answer, then the outputs
 module _ (ns : List BoolNode) (outputs : List ℕ) where
-  pub slice_partial : (length outputs % 5 ≡ 0 → ⊥) → slice_fault ns outputs ≡ Err Broken
+  pub slice_partial : (length outputs % OUTPUT_WORDS ≡ 0 → ⊥) → slice_fault ns outputs ≡ Err Broken
   unfolding slice_fault
-  slice_partial e = rw (ne_eqb (length outputs % 5) 0 e)
+  slice_partial e = rw (ne_eqb (length outputs % OUTPUT_WORDS) 0 e)
 
-  pub slice_whole : length outputs % 5 ≡ 0
+  pub slice_whole : length outputs % OUTPUT_WORDS ≡ 0
       → slice_fault ns outputs ≡ first_fault (check_nodes (length ns) 0 ns) (refuse_if (some_not_below (length ns) (wires_in outputs)) Broken)
   unfolding slice_fault check_circuit
-  slice_whole e = rw (eq-eqb (length outputs % 5) 0 e)
+  slice_whole e = rw (eq-eqb (length outputs % OUTPUT_WORDS) 0 e)
 
 -- over an area of whole records: the check of the nodes that it holds
-pub slice_of_area : (nodes outputs : List ℕ) → length nodes % 9 ≡ 0 → slice_fault (nodes_in nodes) outputs ≡ topological_fault nodes outputs
+pub slice_of_area : (nodes outputs : List ℕ) → length nodes % NODE_WORDS ≡ 0 → slice_fault (nodes_in nodes) outputs ≡ topological_fault nodes outputs
 unfolding slice_fault topological_fault whole
-slice_of_area nodes outputs e = rw (eq-eqb (length nodes % 9) 0 e)
+slice_of_area nodes outputs e = rw (eq-eqb (length nodes % NODE_WORDS) 0 e)
 
 -- the check over a slice of nodes is the check over the area of their words
-pub slice_encoded : (ns : List BoolNode) (outputs : List ℕ) → slice_fault ns outputs ≡ topological_fault (encodes encode_node ns) outputs
-slice_encoded ns outputs = ap (λ (l : List BoolNode). slice_fault l outputs) (sym back) ∙ slice_of_area (encodes encode_node ns) outputs whole_length
+pub slice_encoded : (ns : List BoolNode) (outputs : List ℕ) → ((k : ℕ) → k < length ns → Placed (get_or ns k no_node)) → slice_fault ns outputs ≡ topological_fault (encodes encode_node ns) outputs
+slice_encoded ns outputs placed = ap (λ (l : List BoolNode). slice_fault l outputs) (sym back) ∙ slice_of_area (encodes encode_node ns) outputs whole_length
   where
-    size : length (encodes encode_node ns) ≡ length ns * 9
-    size = length-encodes encode_node 9 node_wide ns
+    size : length (encodes encode_node ns) ≡ length ns * NODE_WORDS
+    size = length-encodes encode_node NODE_WORDS node_wide ns
 
-    whole_length : length (encodes encode_node ns) % 9 ≡ 0
+    whole_length : length (encodes encode_node ns) % NODE_WORDS ≡ 0
     whole_length = omega (arith, size)
 
-    count : length (encodes encode_node ns) / 9 ≡ length ns
+    count : length (encodes encode_node ns) / NODE_WORDS ≡ length ns
     count = omega (arith, size)
 
     back : nodes_in (encodes encode_node ns) ≡ ns
-    back = ap (nodes_of (encodes encode_node ns)) count ∙ nodes_of_area (encodes encode_node ns) ns [] (sym (append-nil (encodes encode_node ns)))
+    back = ap (nodes_of (encodes encode_node ns)) count ∙ nodes_of_area (encodes encode_node ns) ns [] placed (sym (append-nil (encodes encode_node ns)))

@@ -1,11 +1,11 @@
-// The circuit check over a slice, by way of an array: variants of the circuit of 01's listing, an answer to a line.
+// The circuit check over a slice, by way of an array: variants of the circuit of the worked example, an answer to a line.
 
 #![tactic(auto)]
 
 ghost use Rattle.std.specs.Prelude.{◌≡◌};
 ghost use Rattle.node_slices.specs.Slices.{slice_fault};
 
-use circuit::records::{BoolNode, BoolWire, Name, NodeNumber, WireNumber};
+use circuit::records::{BoolNode, BoolWire, CELL, Name, NodeNumber, WIRES, WireNumber};
 use circuit::refusals::Refusal;
 use std::io;
 
@@ -21,13 +21,15 @@ fn input(k: usize) -> BoolNode {
 }
 
 fn cell(k: usize, count: usize, table: usize, a: usize, b: usize) -> BoolNode {
+    let mut wires = [BoolWire::Const(false); WIRES];
+    wires[0] = BoolWire::Node(NodeNumber(a));
+    wires[1] = BoolWire::Node(NodeNumber(b));
     BoolNode {
-        kind: 2,
+        kind: CELL,
         count,
         table,
         name: Name::Number(WireNumber(k)),
-        first: BoolWire::Node(NodeNumber(a)),
-        second: BoolWire::Node(NodeNumber(b)),
+        wires,
     }
 }
 

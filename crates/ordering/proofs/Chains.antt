@@ -14,7 +14,7 @@ use borrow.Author.Tests.{ne_eqb, eqb-true, eqb-false}
 use Rattle.graphs.specs.Graph.{Vertex, is_cell, waits}
 use Rattle.std.specs.Prelude.{Option, None, Some}
 use Rattle.std.specs.Option.{is_some}
-use Rattle.ordering.specs.declared.reads.TheConstants.{READS}
+use Rattle.graphs.specs.declared.TheConstants.{READS}
 use Rattle.ordering.specs.Areas.{entry_of, last_of, passing, word_passes, reading, Running, head_set, next_set, Linked, linked, Opened, Empty, Sourced}
 use Rattle.readyset.specs.Sets.{member, Levels}
 use Rattle.std.proofs.Math.Bool.{and-true, or-false}

@@ -17,7 +17,7 @@ use Rattle.std.proofs.lemmas.List.{nil_from_length}
 use Rattle.laws.specs.Lists.{elem, keep, numbers}
 use Rattle.laws.proofs.Tests.{clash}
 use Rattle.laws.proofs.Lists.{in_numbers, numbers_same, numbers-empty, one_less}
-use Rattle.ordering.specs.declared.reads.TheConstants.{READS}
+use Rattle.graphs.specs.declared.TheConstants.{READS}
 use Rattle.ordering.specs.Areas.{last_of, passing}
 
 -- the last read of a cell

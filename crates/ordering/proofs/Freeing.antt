@@ -10,7 +10,7 @@ use lib.Dec.{leb, eqb, eqb-suc-zero}
 use lib.ListN.{length, get_or, drop}
 use borrow.Author.Tests.{ne_eqb, eq-eqb, le-leb, lt-leb, eqb-true, eqb-false, leb-true, leb-false}
 use Rattle.graphs.specs.Graph.{Vertex, is_cell, waits, ready}
-use Rattle.ordering.specs.declared.reads.TheConstants.{READS}
+use Rattle.graphs.specs.declared.TheConstants.{READS}
 use Rattle.ordering.specs.Areas.{last_of, passing, word_passes, reading, partly, Running, Moved, Lowered, Releasable, Released}
 use Rattle.readyset.specs.Sets.{member, Levels}
 use Rattle.std.proofs.Math.Bool.{and-false, and-true, or-false, or-true}

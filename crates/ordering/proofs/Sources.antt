@@ -16,7 +16,7 @@ use Rattle.laws.proofs.Tests.{clash}
 use Rattle.laws.proofs.Lists.{elem_here, elem-later, elem-cons-split}
 use Rattle.graphs.specs.Graph.{Vertex, is_cell, reads_of, waits, free, ready}
 use Rattle.graphs.proofs.Graph.{waits-cell}
-use Rattle.ordering.specs.declared.reads.TheConstants.{READS}
+use Rattle.graphs.specs.declared.TheConstants.{READS}
 use Rattle.ordering.specs.Areas.{word_passes, reading, passing, with_source, sources, Sourced}
 
 in-filter : (p : ℕ → Bool) (xs : List ℕ) (x : ℕ) → elem x (filter p xs) ≡ true → p x ≡ true

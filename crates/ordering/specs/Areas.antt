@@ -8,7 +8,7 @@ use Rattle.std.specs.List.{filter}
 use Rattle.graphs.specs.Graph.{Vertex, is_cell, reads_of, waits, ready}
 use Rattle.laws.specs.Digits.{updated}
 use Rattle.readyset.specs.Sets.{member, Levels}
-use Rattle.ordering.specs.declared.reads.TheConstants.{READS}
+use Rattle.graphs.specs.declared.TheConstants.{READS}
 use Rattle.ordering.specs.declared.keys.Key.{Key as KeyWords}
 use Rattle.ordering.specs.declared.waiting.ReadyCells.{ReadyCells}
 use Rattle.ordering.specs.declared.picking.Picked.{Picked}

@@ -3,7 +3,7 @@
 use Rattle.std.specs.Prelude.{ℕ, ◌+◌, ◌*◌, true, List, map}
 use Rattle.std.specs.List.{range_with_len}
 use Rattle.graphs.specs.Graph.{Vertex}
-use Rattle.ordering.specs.declared.reads.TheConstants.{READS}
+use Rattle.graphs.specs.declared.TheConstants.{READS}
 use Rattle.ordering.specs.Areas.{sources}
 
 -- a cell that reads what its reads say

@@ -1,7 +1,7 @@
 // A graph as ordering sees it: how many nodes it has, which of them are cells, and what each read reads.
 ghost use Rattle.std.specs.Prelude.{ℕ, ◌≡◌, ◌*◌, ◌<◌, ◌≤◌, List, length};
 ghost use Rattle.graphs.specs.Graph.{Vertex, is_cell as IsCell};
-ghost use Rattle.ordering.specs.declared.reads.TheConstants.{READS};
+ghost use Rattle.graphs.specs.declared.TheConstants.{READS};
 ghost use Rattle.ordering.specs.Areas.{entry_of, Sourced};
 
 pub trait Graph {

@@ -7,7 +7,6 @@ pub mod keys;
 pub mod linking;
 pub mod members;
 pub mod picking;
-pub mod reads;
 pub mod releasing;
 pub mod taking;
 pub mod tree;

@@ -1,10 +1,10 @@
 // The chains of the reads of each cell, and how many of a node's reads read cells.
 ghost use Rattle.std.specs.Prelude.{◌≡◌, ℕ, ◌+◌, ◌*◌, ◌^◌, ◌<◌, ◌≤◌, length, get_or, drop};
-ghost use Rattle.ordering.specs.declared.reads.TheConstants.{READS};
+ghost use Rattle.graphs.specs.declared.TheConstants.{READS};
 ghost use Rattle.ordering.specs.Areas.{head_set, next_set, Linked, linked, passing, entry_of};
 
 use crate::graph::Graph;
-use crate::reads::READS;
+use graphs::READS;
 
 // Puts a read at the front of its source's chain.
 #[tactic(auto, unfolding(crate::specs::Areas::head_set, crate::specs::Areas::next_set))]

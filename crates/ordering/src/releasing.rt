@@ -4,7 +4,7 @@ ghost use Rattle.readyset.specs.Sets.{member};
 ghost use Rattle.ordering.specs.Areas.{Moved, Lowered, Releasable, Released};
 ghost use Rattle.ordering.specs.Tree.{Tracked};
 
-use crate::reads::READS;
+use graphs::READS;
 use crate::tree::refresh;
 use crate::waiting::{ReadyCells, lower, mark_ready};
 use crate::window::Window;

@@ -3,7 +3,7 @@ ghost use Rattle.std.specs.Prelude.{◌≡◌, ◌≢◌, [], ◌+◌, ◌*◌, 
 ghost use Rattle.std.specs.Int.NonZero.{non_zero_usize_get};
 ghost use Rattle.graphs.specs.Graph.{cells_of};
 ghost use Rattle.ordering.specs.Schedule.{key_at, schedule_of};
-ghost use Rattle.ordering.specs.declared.reads.TheConstants.{READS};
+ghost use Rattle.graphs.specs.declared.TheConstants.{READS};
 ghost use Rattle.ordering.specs.Areas.{Counted, Startable, Scheduled, Filled, Listed};
 ghost use Rattle.ordering.specs.Taking.{Took, Resumable, Finished};
 ghost use Rattle.ordering.specs.Tree.{Tracked};

@@ -2,13 +2,13 @@
 // The C interface lends it, and it stands in no struct: a clause would name it `ready.old.words.now` and `ready.new.words.now`, longer than `area.old` and `area.new`, and promise that its count stays.
 ghost use Rattle.std.specs.Prelude.{◌≡◌, [], true, ◌&&◌, ◌+◌, ◌*◌, ◌^◌, ◌<◌, ◌≤◌, min, eqb, length, get_or, drop};
 ghost use Rattle.readyset.specs.Sets.{Levels};
-ghost use Rattle.ordering.specs.declared.reads.TheConstants.{READS};
+ghost use Rattle.graphs.specs.declared.TheConstants.{READS};
 ghost use Rattle.ordering.specs.Areas.{Linked, Empty, Running, Counted, Moved, Noted, Notable, Lowered, Opened, Releasable, Released};
 ghost use Rattle.ordering.specs.Tree.{Kept};
 
 use crate::graph::Graph;
 use crate::linking::cells_read;
-use crate::reads::READS;
+use graphs::READS;
 
 // What is known of the ready cells: none is below `from`, and `number` counts them.
 #[derive(Clone, Copy)]

@@ -11,7 +11,7 @@ use Rattle.laws.specs.Lists.{numbers}
 use Rattle.laws.specs.Stretches.{same_bytes}
 use Rattle.laws.proofs.Lists.{numbers-empty}
 use Rattle.laws.proofs.Stretches.{same_eq, same_refl}
-use Rattle.ordering.specs.declared.reads.TheConstants.{READS}
+use Rattle.graphs.specs.declared.TheConstants.{READS}
 use Rattle.ordering.specs.Areas.{with_source, sources}
 use Rattle.ordering.proofs.Scan.{first_some}
 use Rattle.placing.specs.Definitions.{Definition, definition_at, definers, definers_of}

@@ -3,7 +3,7 @@
 use Rattle.std.specs.Prelude.{ℕ, zero, suc, ◌+◌, ◌-◌, ◌*◌, ◌≤◌, ◌<◌, ◌≡◌, ◌≢◌, Ok, List, [], length, take, slice_index, slice_index_or}
 use Rattle.circuit.specs.declared.refusals.Refusal.TheVariants.{Circle}
 use Rattle.circuit.specs.Refusals.{Checked, refuse_if}
-use Rattle.ordering.specs.declared.reads.TheConstants.{READS}
+use Rattle.graphs.specs.declared.TheConstants.{READS}
 use Rattle.ordering.specs.Areas.{sources}
 use Rattle.placing.specs.Definitions.{Definition, definition_at, definers_of}
 use Rattle.placing.specs.Placing.{placing}

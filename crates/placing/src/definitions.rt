@@ -1,6 +1,6 @@
 // The definitions of a text once their inputs are looked up: what each reads.
 ghost use Rattle.std.specs.Prelude.{◌*◌, ◌≤◌, length};
-ghost use Rattle.ordering.specs.declared.reads.TheConstants.{READS};
+ghost use Rattle.graphs.specs.declared.TheConstants.{READS};
 ghost use Rattle.placing.specs.Resolved.{source_in, Inside};
 
 use ordering::graph::Graph;

@@ -1,6 +1,6 @@
 // Definitions placed one after the other, the earliest whose inputs are all placed.
 ghost use Rattle.std.specs.Prelude.{◌*◌, ◌<◌, ◌≤◌, length};
-ghost use Rattle.ordering.specs.declared.reads.TheConstants.{READS};
+ghost use Rattle.graphs.specs.declared.TheConstants.{READS};
 ghost use Rattle.placing.specs.Resolved.{PlacedIn};
 
 use crate::definitions::Definitions;

@@ -1,6 +1,6 @@
 -- The checks of the call, one after the other, and what the call leaves.
 -- Assumes nothing.
-use Rattle.ordering.specs.declared.reads.TheConstants.{READS}
+use Rattle.graphs.specs.declared.TheConstants.{READS}
 use Rattle.std.specs.Prelude.{Err, Ok}
 use Prim.Native.Nat.{ℕ, ◌+◌, ◌-◌, ◌*◌, ◌/◌, ◌≤◌, ◌<◌}
 use mathlib.Core.Path.{◌≡◌, refl, sym, ap, ap₂, ◌∙◌}

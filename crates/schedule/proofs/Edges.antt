@@ -8,7 +8,7 @@ use native.Mathlib.Omega.{arith}
 use lib.Dec.{eqb}
 use lib.ListN.{get_or}
 use borrow.Author.Tests.{le-ltb, lt-ltb}
-use Rattle.ordering.specs.declared.reads.TheConstants.{READS}
+use Rattle.graphs.specs.declared.TheConstants.{READS}
 use Rattle.std.specs.Bool.{then_some}
 use Rattle.circuit.specs.Records.{node_at, is_cell_node}
 use Rattle.schedule.proofs.Records.{cell-words}

@@ -21,7 +21,7 @@ use Rattle.circuit.specs.Check.{not_below, some_not_below, record_broken, node_b
 use Rattle.graphs.specs.Graph.{is_cell, reads_of}
 use Rattle.circuit.specs.Graph.{nodes_read}
 use Rattle.circuit.proofs.Circuits.{cell-at, reads_at, length_graph}
-use Rattle.ordering.specs.declared.reads.TheConstants.{READS}
+use Rattle.graphs.specs.declared.TheConstants.{READS}
 use Rattle.schedule.specs.Call.{graph_in}
 use Rattle.schedule.specs.Records.{cell_at, wire_at, Wired}
 

@@ -9,7 +9,7 @@ use native.Mathlib.Omega.{arith}
 use lib.Dec.{eqb}
 use lib.ListN.{get_or}
 use Rattle.graphs.specs.Graph.{is_cell}
-use Rattle.ordering.specs.declared.reads.TheConstants.{READS}
+use Rattle.graphs.specs.declared.TheConstants.{READS}
 use Rattle.std.specs.List.{filter}
 use Rattle.schedule.specs.Call.{graph_in}
 use Rattle.schedule.proofs.Records.{wire_reads, reads_from, length_in, cell-is, reads_is}

@@ -7,7 +7,7 @@ use Rattle.circuit.specs.Records.{nodes_of}
 use Rattle.circuit.specs.Check.{records_fault}
 use Rattle.graphs.specs.Graph.{Vertex, cells_of}
 use Rattle.circuit.specs.Graph.{graph_of}
-use Rattle.ordering.specs.declared.reads.TheConstants.{READS}
+use Rattle.graphs.specs.declared.TheConstants.{READS}
 use Rattle.ordering.specs.Schedule.{key_at, schedule_of}
 use Rattle.ordering.specs.Promises.{leaves_out}
 

@@ -1,7 +1,7 @@
 -- The node records by their words: what each read reads, and what ordering asks of them.
 -- Assumes nothing.
 use Rattle.std.specs.Prelude.{ℕ, zero, suc, ◌+◌, ◌-◌, ◌*◌, ◌/◌, ◌%◌, ◌≤◌, ◌<◌, ◌≡◌, Bool, cond, List, eqb, ltb, length, get_or}
-use Rattle.ordering.specs.declared.reads.TheConstants.{READS}
+use Rattle.graphs.specs.declared.TheConstants.{READS}
 
 -- a node's words: kind (2 is a cell), count of wires, table, four of the name, first wire, second wire
 unfoldable pub cell_at : List ℕ → ℕ → Bool

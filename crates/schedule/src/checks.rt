@@ -8,7 +8,7 @@ use crate::reads::Netlist;
 use circuit::check::check_records;
 use circuit::nodes::Nodes;
 use circuit::refusals::Refusal;
-use ordering::reads::READS;
+use graphs::READS;
 use ordering::taking::{count_cells, fresh_order};
 use std::num::NonZeroUsize;
 

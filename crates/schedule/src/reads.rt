@@ -1,13 +1,13 @@
 // The reads of the cells of node records: what each reads.
 ghost use Rattle.std.specs.Prelude.{◌≡◌, ◌<◌, MatchOption};
-ghost use Rattle.ordering.specs.declared.reads.TheConstants.{READS};
+ghost use Rattle.graphs.specs.declared.TheConstants.{READS};
 ghost use Rattle.ordering.specs.Areas.{Sourced};
 ghost use Rattle.schedule.specs.Call.{graph_in};
 ghost use Rattle.schedule.specs.Records.{wire_at, Wired, source_of};
 
 use circuit::nodes::Nodes;
 use ordering::graph::Graph;
-use ordering::reads::READS;
+use graphs::READS;
 
 // The nodes of a circuit, of which every wire is a constant or one of them: so what they read is what their graph reads.
 #[derive(Clone, Copy)]

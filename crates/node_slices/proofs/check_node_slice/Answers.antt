@@ -1,24 +1,63 @@
-use Rattle.std.proofs.Common.{ap, ◌∙◌, sym, arith, length}
+use Rattle.std.proofs.Common.{length, sym, ap, arith, ◌∙◌}
 use Rattle.std.proofs.lemmas.List.{get_or_default}
-use Rattle.std.proofs.lemmas.Result.{err_from_is_err_and}
 use Rattle.circuit.specs.declared.records.BoolNode.{BoolNode}
+use Rattle.circuit.specs.declared.refusals.Refusal.TheVariants.{Broken, NotEarlier}
 use Rattle.circuit.specs.Records.{no_node}
-use Rattle.circuit.specs.Check.{check_node}
+use Rattle.circuit.specs.Check.{not_below, check_node}
+use Rattle.circuit.proofs.Checks.{record_fault, record_passed, wire_outside, wire_ahead, wire_passed, wires_passed}
 use Rattle.node_slices.proofs.Slices.{left_faulty, left_clean, left_over}
 use Rattle.node_slices.proofs.check_node_slice.Goals as goal
 
-pub returns-in_err-check_node : goal.returns-in_err-check_node
-returns-in_err-check_node c =
-    let ns = c.args.nodes.now in let m = length ns in let i = c.loop-i.i in
-    let e = ap (λ (n : BoolNode). check_node m i n) (get_or_default ns i _ no_node c.loop-i-test.true) in
-    let p = err_from_is_err_and c.from_residual.result c.from_residual.ensures.1 in
-    rw (p.1, p.2) (sym (c.loop-i.invariant.0 ∙ left_faulty ns m i c.loop-i-test.true _ (sym e ∙ sym c.in_err-check_node.ensures)))
+pub loop-k-preserved : goal.loop-k-preserved
+loop-k-preserved c =
+    let m = length c.args.nodes.now in
+    let w = sym c.wire_at-w.ensures in (
+      c.loop-k.invariant.0
+          ∙ wire_passed m c.scan.i _ c.loop-k.k (omega arith) (ap (not_below m) w ∙ sym c.not_below.ensures ∙ c.if-not_below.false)
+          (ap (not_below c.scan.i) w ∙ sym c.not_below-in-loop-k.ensures ∙ c.if-not_below-2.false),
+      omega arith,
+      c.loop-k.invariant.2,
+      c.loop-k.invariant.3,
+    )
 
-pub loop-i-preserved : goal.loop-i-preserved
-loop-i-preserved c =
-    let ns = c.args.nodes.now in let m = length ns in let i = c.loop-i.i in
-    let e = ap (λ (n : BoolNode). check_node m i n) (get_or_default ns i _ no_node c.loop-i-test.true) in
-    (c.loop-i.invariant.0 ∙ left_clean ns m i c.loop-i-test.true (sym e ∙ sym c.in_ok-check_node.ensures), omega arith)
+pub scan-preserved : goal.scan-preserved
+scan-preserved c =
+    let ns = c.args.nodes.now in let m = length ns in let i = c.scan.i in
+    let e = ap (λ (n : BoolNode). check_node m i n) (get_or_default ns i _ no_node c.scan-test.true) in (
+      c.scan.invariant.0
+          ∙ left_clean ns m i c.scan-test.true
+          (sym e ∙ record_passed m i _ (sym c.record_broken.ensures ∙ c.if-record_broken.false) ∙ c.loop-k.invariant.0 ∙ wires_passed m i _ c.loop-k.k (omega arith)),
+      omega arith,
+      c.loop-k.invariant.3,
+    )
 
-pub returns : goal.returns
-returns c = sym (c.loop-i.invariant.0 ∙ left_over c.args.nodes.now (length c.args.nodes.now) c.loop-i.i c.loop-i-test.false)
+pub returns-after-scan : goal.returns-after-scan
+returns-after-scan c = c.scan.invariant.2 ∙ sym (c.scan.invariant.0 ∙ left_over c.args.nodes.now (length c.args.nodes.now) c.scan.i c.scan-test.false)
+
+pub returns-then-record_broken : goal.returns-then-record_broken
+returns-then-record_broken c =
+    let ns = c.args.nodes.now in let m = length ns in let i = c.scan.i in
+    let e = ap (λ (n : BoolNode). check_node m i n) (get_or_default ns i _ no_node c.scan-test.true) in
+    sym (c.scan.invariant.0 ∙ left_faulty ns m i c.scan-test.true Broken (sym e ∙ record_fault m i _ (sym c.record_broken.ensures ∙ c.if-record_broken.true)))
+
+pub returns-then-not_below : goal.returns-then-not_below
+returns-then-not_below c =
+    let ns = c.args.nodes.now in let m = length ns in let i = c.scan.i in
+    let e = ap (λ (n : BoolNode). check_node m i n) (get_or_default ns i _ no_node c.scan-test.true) in
+    sym (c.scan.invariant.0
+    ∙ left_faulty ns m i c.scan-test.true Broken
+    (sym e ∙ record_passed m i _ (sym c.record_broken.ensures ∙ c.if-record_broken.false)
+    ∙ c.loop-k.invariant.0
+    ∙ wire_outside m i _ c.loop-k.k (omega arith) (ap (not_below m) (sym c.wire_at-w.ensures) ∙ sym c.not_below.ensures ∙ c.if-not_below.true)))
+
+pub returns-then-not_below-2 : goal.returns-then-not_below-2
+returns-then-not_below-2 c =
+    let ns = c.args.nodes.now in let m = length ns in let i = c.scan.i in
+    let e = ap (λ (n : BoolNode). check_node m i n) (get_or_default ns i _ no_node c.scan-test.true) in
+    let w = sym c.wire_at-w.ensures in
+    sym (c.scan.invariant.0
+    ∙ left_faulty ns m i c.scan-test.true NotEarlier
+    (sym e ∙ record_passed m i _ (sym c.record_broken.ensures ∙ c.if-record_broken.false)
+    ∙ c.loop-k.invariant.0
+    ∙ wire_ahead m i _ c.loop-k.k (omega arith) (ap (not_below m) w ∙ sym c.not_below.ensures ∙ c.if-not_below.false)
+    (ap (not_below i) w ∙ sym c.not_below-in-loop-k.ensures ∙ c.if-not_below-2.true)))

@@ -1,6 +1,6 @@
 use Rattle.std.proofs.Common.{rules, arith}
 use Prim.Native.Nat.{◌+◌, ◌*◌}
-use Rattle.ordering.specs.declared.reads.TheConstants.{READS}
+use Rattle.graphs.specs.declared.TheConstants.{READS}
 use mathlib.Core.Path.{◌∙◌}
 use Rattle.std.proofs.lemmas.Iterator.{YieldsList-from_range}
 use Rattle.std.proofs.lemmas.Iterator.Consumers.{YieldsList-from_filter, count_from_yields_List}

@@ -1,6 +1,6 @@
 use Prim.Native.Nat.{◌-◌, ◌/◌, ◌%◌}
 use native.Mathlib.Omega.{arith}
-use Rattle.ordering.specs.declared.reads.TheConstants.{READS}
+use Rattle.graphs.specs.declared.TheConstants.{READS}
 use Rattle.schedule.proofs.Records.{length_in}
 use Rattle.schedule.proofs.Edges.{source_const, source_there}
 use Rattle.schedule.proofs.reads.NetlistGraph.source.Goals as goal
