@@ -4,10 +4,10 @@ ghost use Rattle.readyset.specs.Sets.{member};
 ghost use Rattle.ordering.specs.Areas.{Moved, Lowered, Releasable, Released};
 ghost use Rattle.ordering.specs.Tree.{Tracked};
 
-use graphs::READS;
 use crate::tree::refresh;
 use crate::waiting::{ReadyCells, lower, mark_ready};
 use crate::window::Window;
+use graphs::READS;
 
 impl Window {
     // One read less of the node waits; the last one makes it ready, and below the limit it enters the tree.

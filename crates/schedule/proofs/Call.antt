@@ -1,5 +1,6 @@
 -- The checks of the call, one after the other, and what the call leaves.
 -- Assumes nothing.
+use Rattle.circuit.specs.declared.records.TheConstants.{NODE_WORDS}
 use Rattle.graphs.specs.declared.TheConstants.{READS}
 use Rattle.std.specs.Prelude.{Err, Ok}
 use Prim.Native.Nat.{ℕ, ◌+◌, ◌-◌, ◌*◌, ◌/◌, ◌≤◌, ◌<◌}
@@ -56,39 +57,39 @@ module _ (nodes outputs : List ℕ) (window : ℕ) (keys : List ℕ) (ready succ
     fault_window w = rw (passed, eq-eqb window 0 w)
 
     module _ (w : window ≢ 0) where
-      pub fault_keys : length keys ≢ 3 * (length nodes / 9) → Err WrongValues ≡ call_fault nodes outputs window keys ready successors order
+      pub fault_keys : length keys ≢ 3 * (length nodes / NODE_WORDS) → Err WrongValues ≡ call_fault nodes outputs window keys ready successors order
       unfolding call_fault
-      fault_keys k = rw (passed, ne_eqb window 0 w, ne_eqb (length keys) (3 * (length nodes / 9)) k)
+      fault_keys k = rw (passed, ne_eqb window 0 w, ne_eqb (length keys) (3 * (length nodes / NODE_WORDS)) k)
 
-      module _ (k : length keys ≡ 3 * (length nodes / 9)) (t : Bool) (r : t ≡ room (length nodes / 9) ready successors order) where
+      module _ (k : length keys ≡ 3 * (length nodes / NODE_WORDS)) (t : Bool) (r : t ≡ room (length nodes / NODE_WORDS) ready successors order) where
         pub fault_none : t ≡ true → (Ok tt) ≡ call_fault nodes outputs window keys ready successors order
         unfolding call_fault
-        fault_none e = rw (passed, ne_eqb window 0 w, eq-eqb (length keys) (3 * (length nodes / 9)) k, sym r ∙ e)
+        fault_none e = rw (passed, ne_eqb window 0 w, eq-eqb (length keys) (3 * (length nodes / NODE_WORDS)) k, sym r ∙ e)
 
         pub fault_room : t ≡ false → Err NoRoom ≡ call_fault nodes outputs window keys ready successors order
         unfolding call_fault
-        fault_room e = rw (passed, ne_eqb window 0 w, eq-eqb (length keys) (3 * (length nodes / 9)) k, sym r ∙ e)
+        fault_room e = rw (passed, ne_eqb window 0 w, eq-eqb (length keys) (3 * (length nodes / NODE_WORDS)) k, sym r ∙ e)
 
   -- what is known once they are passed
   module _ (sound : call_fault nodes outputs window keys ready successors order ≡ Ok tt) where
-    records_sound : (records_fault nodes outputs ≡ Ok tt) × (first_fault (refuse_if (eqb window 0) NoWindow) (first_fault (refuse_if (not (eqb (length keys) (3 * (length nodes / 9)))) WrongValues) (refuse_if (not (room (length nodes / 9) ready successors order)) NoRoom)) ≡ Ok tt)
+    records_sound : (records_fault nodes outputs ≡ Ok tt) × (first_fault (refuse_if (eqb window 0) NoWindow) (first_fault (refuse_if (not (eqb (length keys) (3 * (length nodes / NODE_WORDS)))) WrongValues) (refuse_if (not (room (length nodes / NODE_WORDS) ready successors order)) NoRoom)) ≡ Ok tt)
     unfolding call_fault
     records_sound = no_fault _ _ sound
 
     pub sound_records : records_fault nodes outputs ≡ Ok tt
     sound_records = records_sound.0
 
-    window_sound : (refuse_if (eqb window 0) NoWindow ≡ Ok tt) × (first_fault (refuse_if (not (eqb (length keys) (3 * (length nodes / 9)))) WrongValues) (refuse_if (not (room (length nodes / 9) ready successors order)) NoRoom) ≡ Ok tt)
+    window_sound : (refuse_if (eqb window 0) NoWindow ≡ Ok tt) × (first_fault (refuse_if (not (eqb (length keys) (3 * (length nodes / NODE_WORDS)))) WrongValues) (refuse_if (not (room (length nodes / NODE_WORDS) ready successors order)) NoRoom) ≡ Ok tt)
     window_sound = no_fault _ _ records_sound.1
 
-    keys_sound : (refuse_if (not (eqb (length keys) (3 * (length nodes / 9)))) WrongValues ≡ Ok tt) × (refuse_if (not (room (length nodes / 9) ready successors order)) NoRoom ≡ Ok tt)
+    keys_sound : (refuse_if (not (eqb (length keys) (3 * (length nodes / NODE_WORDS)))) WrongValues ≡ Ok tt) × (refuse_if (not (room (length nodes / NODE_WORDS) ready successors order)) NoRoom ≡ Ok tt)
     keys_sound = no_fault _ _ window_sound.1
 
     not-false : (t : Bool) → not t ≡ false → t ≡ true
     not-false true e = refl
     not-false false e = sym e
 
-    has_room : room (length nodes / 9) ready successors order ≡ true
+    has_room : room (length nodes / NODE_WORDS) ready successors order ≡ true
     has_room = not-false _ (not_refused _ NoRoom keys_sound.1)
 
     unbroken : circuit_broken (nodes_in nodes) (wires_in outputs) ≡ false
@@ -100,15 +101,15 @@ module _ (nodes outputs : List ℕ) (window : ℕ) (keys : List ℕ) (ready succ
     pub orderable : Orderable nodes (length keys) window ready successors order
     unfolding room
     orderable =
-        let a = and_parts (leb (3 * (length nodes / 9)) ready) (leb (READS * (length nodes / 9) + 1) successors && leb (length nodes / 9) order) has_room in
-        let b = and_parts (leb (READS * (length nodes / 9) + 1) successors) (leb (length nodes / 9) order) a.1 in
+        let a = and_parts (leb (3 * (length nodes / NODE_WORDS)) ready) (leb (READS * (length nodes / NODE_WORDS) + 1) successors && leb (length nodes / NODE_WORDS) order) has_room in
+        let b = and_parts (leb (READS * (length nodes / NODE_WORDS) + 1) successors) (leb (length nodes / NODE_WORDS) order) a.1 in
         record {
-          wired = sound_wired nodes (length nodes / 9) (wires_in outputs) unbroken;
+          wired = sound_wired nodes (length nodes / NODE_WORDS) (wires_in outputs) unbroken;
           window_is = omega (arith, eqb-false window 0 (not_refused _ NoWindow window_sound.0));
-          keys_are = eqb-true (length keys) (3 * (length nodes / 9)) (not-false _ (not_refused _ WrongValues keys_sound.0));
-          ready_room = leb-true (3 * (length nodes / 9)) ready a.0;
-          successor_room = omega (arith, leb-true (READS * (length nodes / 9) + 1) successors b.0);
-          order_room = leb-true (length nodes / 9) order b.1;
+          keys_are = eqb-true (length keys) (3 * (length nodes / NODE_WORDS)) (not-false _ (not_refused _ WrongValues keys_sound.0));
+          ready_room = leb-true (3 * (length nodes / NODE_WORDS)) ready a.0;
+          successor_room = omega (arith, leb-true (READS * (length nodes / NODE_WORDS) + 1) successors b.0);
+          order_room = leb-true (length nodes / NODE_WORDS) order b.1;
         }
 
 -- the order, or 17
@@ -147,7 +148,7 @@ module _ (nodes outputs : List ℕ) (window : ℕ) (keys ready successors order 
   call_refused e q ready' successors' order' x y z =
       rw (sym s ∙ q) (left_same (Err e) (Err e) ready' successors' order' (replicate (length ready) 0) (replicate (length successors) 0) (replicate (length order) 0) refl x y z)
 
-  pub call_ordered : f ≡ Ok tt → (left : Left) → left ≡ left_by (circle_fault nodes (length nodes / 9) window keys) (length (cells_of (graph_in nodes (length nodes / 9)))) (order_in nodes (length nodes / 9) window keys) (length ready) (length successors) (length order) → left ≡ schedule_call nodes outputs window keys ready successors order
+  pub call_ordered : f ≡ Ok tt → (left : Left) → left ≡ left_by (circle_fault nodes (length nodes / NODE_WORDS) window keys) (length (cells_of (graph_in nodes (length nodes / NODE_WORDS)))) (order_in nodes (length nodes / NODE_WORDS) window keys) (length ready) (length successors) (length order) → left ≡ schedule_call nodes outputs window keys ready successors order
   unfolding schedule_call schedule_fault
   call_ordered q left e = rw (sym s ∙ q) e
 

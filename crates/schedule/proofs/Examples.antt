@@ -2,18 +2,17 @@
 -- Assumes nothing.
 use Rattle.std.specs.Prelude.{Ok}
 use mathlib.Core.Path.{◌≡◌, refl}
-use mathlib.Core.Bool.{false}
 use mathlib.Core.List.{List, [], ◌∷◌}
 use Prim.Native.Nat.{ℕ, zero, suc, ◌+◌, ◌*◌}
 use lib.ListN.{length, replicate}
 use Rattle.laws.specs.Areas.{encodes}
 use Rattle.laws.specs.Lists.{numbers}
 use Rattle.circuit.specs.declared.records.BoolWire.{BoolWire}
-use Rattle.circuit.specs.declared.records.BoolWire.TheVariants.{Const, Node}
+use Rattle.circuit.specs.declared.records.BoolWire.TheVariants.{Node}
 use Rattle.circuit.specs.declared.records.Name.TheVariants.{Stretch}
 use Rattle.circuit.specs.declared.records.BoolNode.{BoolNode}
 use Rattle.circuit.specs.declared.records.Output.{Output}
-use Rattle.circuit.specs.Records.{encode_node, encode_output, is_cell_node, wires_of}
+use Rattle.circuit.specs.Records.{places, node_from, input_node, cell_node, encode_node, encode_output, is_cell_node, wires_of}
 use Rattle.circuit.specs.Check.{cell_broken, record_broken, node_broken, circuit_broken, whole, records_fault}
 use Rattle.circuit.specs.Graph.{nodes_read, vertex_of, graph_of}
 use Rattle.graphs.specs.Graph.{outside, is_cell, reads_of, cells_of, waits, free, ready, ready_cells}
@@ -26,18 +25,18 @@ abbrev n : ℕ → BoolWire
 n k = Node (record { 0 = k })
 
 abbrev input : BoolNode
-input = record { kind = 1; count = 0; table = 0; name = Stretch 0 1; first = Const false; second = Const false }
+input = input_node (Stretch 0 1)
 
 abbrev one : ℕ → BoolWire → BoolNode
-one t a = record { kind = 2; count = 1; table = t; name = Stretch 2 1; first = a; second = Const false }
+one t a = cell_node (Stretch 2 1) t (a ∷ [])
 
 abbrev two : ℕ → BoolWire → BoolWire → BoolNode
-two t a b = record { kind = 2; count = 2; table = t; name = Stretch 4 1; first = a; second = b }
+two t a b = cell_node (Stretch 4 1) t (a ∷ b ∷ [])
 
 abbrev output : BoolWire → Output
 output w = record { name = Stretch 6 1; wire = w }
 
--- the circuit of 01's listing
+-- the circuit of the worked example
 abbrev listed : List BoolNode
 listed = input ∷ input ∷ two 4 (n 0) (n 1) ∷ one 1 (n 0) ∷ two 8 (n 2) (n 3) ∷ []
 
@@ -53,7 +52,7 @@ equal m = replicate (3 * m) 5
 pub starred-order :
     schedule_call (encodes encode_node listed) (encodes encode_output (output (n 4) ∷ [])) 2 (numbered 0 5) (replicate 16 7) (replicate 12 7) (replicate 6 7)
     ≡ leaves (Ok 3) (replicate 16 0) (replicate 12 0) (3 ∷ 2 ∷ 4 ∷ 0 ∷ 0 ∷ 0 ∷ [])
-unfolding schedule_call schedule_fault call_fault circle_fault room leaves_out graph_in order_in schedule_of schedule_from next pick best above key_at graph_of vertex_of nodes_read outside is_cell reads_of waits free ready ready_cells cells_of numbers records_fault whole circuit_broken node_broken record_broken cell_broken wires_of is_cell_node
+unfolding places node_from input_node cell_node encode_node schedule_call schedule_fault call_fault circle_fault room leaves_out graph_in order_in schedule_of schedule_from next pick best above key_at graph_of vertex_of nodes_read outside is_cell reads_of waits free ready ready_cells cells_of numbers records_fault whole circuit_broken node_broken record_broken cell_broken wires_of is_cell_node
 starred-order = refl
 
 -- number, count and order of a call with just enough room
@@ -104,5 +103,5 @@ pub table :
     ∷ (3 ∷ 0 ∷ 0 ∷ 0 ∷ 0 ∷ 0 ∷ 0 ∷ [])
     ∷ (3 ∷ 0 ∷ 0 ∷ 0 ∷ 0 ∷ 0 ∷ [])
     ∷ []
-unfolding schedule_call schedule_fault call_fault circle_fault room leaves_out graph_in order_in schedule_of schedule_from next pick best above key_at graph_of vertex_of nodes_read outside is_cell reads_of waits free ready ready_cells cells_of numbers records_fault whole circuit_broken node_broken record_broken cell_broken wires_of is_cell_node
+unfolding places node_from input_node cell_node encode_node schedule_call schedule_fault call_fault circle_fault room leaves_out graph_in order_in schedule_of schedule_from next pick best above key_at graph_of vertex_of nodes_read outside is_cell reads_of waits free ready ready_cells cells_of numbers records_fault whole circuit_broken node_broken record_broken cell_broken wires_of is_cell_node
 table = refl

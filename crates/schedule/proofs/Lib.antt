@@ -1,5 +1,4 @@
 pub mod Records
-pub mod Edges
 pub mod Sources
 pub mod Call
 pub mod Theorems

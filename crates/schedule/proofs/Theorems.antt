@@ -1,5 +1,6 @@
 -- The promises of specs/Promises, proved of every circuit; and that a circuit which passes `validate_topological` is not broken.
 -- Assumes nothing.
+use Rattle.circuit.specs.declared.records.TheConstants.{NODE_WORDS}
 use Rattle.std.specs.Prelude.{Err, Ok}
 use Prim.Native.Nat.{ℕ, suc, ◌-◌, ◌*◌, ◌/◌, ◌≤◌, ◌<◌}
 use mathlib.Core.Path.{◌≡◌, refl, sym, ap, ◌∙◌}
@@ -51,7 +52,7 @@ module _ (nodes outputs : List ℕ) (valid : topological_fault nodes outputs ≡
   unfolding records_fault
   validated_records = rw (parts.0, sound_unbroken (nodes_in nodes) (wires_in outputs) (circuit-sound (nodes_in nodes) (wires_in outputs) parts.1))
 
-  pub validated_forward : Forward (graph_in nodes (length nodes / 9))
+  pub validated_forward : Forward (graph_in nodes (length nodes / NODE_WORDS))
   unfolding graph_in
   validated_forward = checked_forward (nodes_in nodes) (wires_in outputs) parts.1
 
@@ -68,71 +69,71 @@ module _ (nodes outputs : List ℕ) (window : ℕ) (keys : List ℕ) (ready succ
   at_least_one : 1 ≤ window
   at_least_one = (orderable nodes outputs window keys ready successors order passed).window_is
 
-  last : schedule_fault nodes outputs window keys ready successors order ≡ circle_fault nodes (length nodes / 9) window keys
+  last : schedule_fault nodes outputs window keys ready successors order ≡ circle_fault nodes (length nodes / NODE_WORDS) window keys
   unfolding schedule_fault
   last = rw passed
 
-  circle_refuses : Circle (graph_in nodes (length nodes / 9)) → schedule_fault nodes outputs window keys ready successors order ≡ Err InCircle
+  circle_refuses : Circle (graph_in nodes (length nodes / NODE_WORDS)) → schedule_fault nodes outputs window keys ready successors order ≡ Err InCircle
   unfolding circle_fault order_in
-  circle_refuses o = last ∙ ap (λ (t : Bool). refuse_if t InCircle) (circle_out (graph_in nodes (length nodes / 9)) window (key_at keys) o)
+  circle_refuses o = last ∙ ap (λ (t : Bool). refuse_if t InCircle) (circle_out (graph_in nodes (length nodes / NODE_WORDS)) window (key_at keys) o)
 
-  not_out : schedule_fault nodes outputs window keys ready successors order ≡ Ok tt → leaves_out (order_in nodes (length nodes / 9) window keys) (cells_of (graph_in nodes (length nodes / 9))) ≡ false
+  not_out : schedule_fault nodes outputs window keys ready successors order ≡ Ok tt → leaves_out (order_in nodes (length nodes / NODE_WORDS) window keys) (cells_of (graph_in nodes (length nodes / NODE_WORDS))) ≡ false
   unfolding circle_fault
   not_out e = not_refused _ InCircle (sym last ∙ e)
 
-  refuses_circle : schedule_fault nodes outputs window keys ready successors order ≡ Err InCircle → Circle (graph_in nodes (length nodes / 9))
+  refuses_circle : schedule_fault nodes outputs window keys ready successors order ≡ Err InCircle → Circle (graph_in nodes (length nodes / NODE_WORDS))
   unfolding circle_fault order_in
-  refuses_circle e = go (leaves_out (order_in nodes (length nodes / 9) window keys) (cells_of (graph_in nodes (length nodes / 9)))) refl
+  refuses_circle e = go (leaves_out (order_in nodes (length nodes / NODE_WORDS) window keys) (cells_of (graph_in nodes (length nodes / NODE_WORDS)))) refl
     where
-      go : (t : Bool) → leaves_out (order_in nodes (length nodes / 9) window keys) (cells_of (graph_in nodes (length nodes / 9))) ≡ t → Circle (graph_in nodes (length nodes / 9))
-      go true q = out_circle (graph_in nodes (length nodes / 9)) window (key_at keys) at_least_one q
+      go : (t : Bool) → leaves_out (order_in nodes (length nodes / NODE_WORDS) window keys) (cells_of (graph_in nodes (length nodes / NODE_WORDS))) ≡ t → Circle (graph_in nodes (length nodes / NODE_WORDS))
+      go true q = out_circle (graph_in nodes (length nodes / NODE_WORDS)) window (key_at keys) at_least_one q
       go false q =
           let s : (Ok tt) ≡ Err InCircle = sym (last ∙ ap (λ (t : Bool). refuse_if t InCircle) q) ∙ e in
           let z : ◌≡◌ {A = ℕ} 0 1 = cc in
           absurd (omega arith)
 
-  accepts : (Circle (graph_in nodes (length nodes / 9)) → ⊥) → schedule_fault nodes outputs window keys ready successors order ≡ Ok tt
+  accepts : (Circle (graph_in nodes (length nodes / NODE_WORDS)) → ⊥) → schedule_fault nodes outputs window keys ready successors order ≡ Ok tt
   unfolding circle_fault order_in
   accepts no-circle =
-      last ∙ ap (λ (t : Bool). refuse_if t InCircle) (false_from_ne_true _ (λ q. no-circle (out_circle (graph_in nodes (length nodes / 9)) window (key_at keys) at_least_one q)))
+      last ∙ ap (λ (t : Bool). refuse_if t InCircle) (false_from_ne_true _ (λ q. no-circle (out_circle (graph_in nodes (length nodes / NODE_WORDS)) window (key_at keys) at_least_one q)))
 
-  no_circle_in : schedule_fault nodes outputs window keys ready successors order ≡ Ok tt → Circle (graph_in nodes (length nodes / 9)) → ⊥
+  no_circle_in : schedule_fault nodes outputs window keys ready successors order ≡ Ok tt → Circle (graph_in nodes (length nodes / NODE_WORDS)) → ⊥
   no_circle_in e o =
       let s : (Ok tt) ≡ Err InCircle = sym e ∙ circle_refuses o in
       let z : ◌≡◌ {A = ℕ} 0 1 = cc in
       omega arith
 
-  lists_every : schedule_fault nodes outputs window keys ready successors order ≡ Ok tt → ListsAll (graph_in nodes (length nodes / 9)) (order_in nodes (length nodes / 9) window keys)
+  lists_every : schedule_fault nodes outputs window keys ready successors order ≡ Ok tt → ListsAll (graph_in nodes (length nodes / NODE_WORDS)) (order_in nodes (length nodes / NODE_WORDS) window keys)
   unfolding order_in
-  lists_every e = none_out (graph_in nodes (length nodes / 9)) window (key_at keys) (not_out e)
+  lists_every e = none_out (graph_in nodes (length nodes / NODE_WORDS)) window (key_at keys) (not_out e)
 
-  numbers_every : schedule_fault nodes outputs window keys ready successors order ≡ Ok tt → length (order_in nodes (length nodes / 9) window keys) ≡ length (cells_of (graph_in nodes (length nodes / 9)))
+  numbers_every : schedule_fault nodes outputs window keys ready successors order ≡ Ok tt → length (order_in nodes (length nodes / NODE_WORDS) window keys) ≡ length (cells_of (graph_in nodes (length nodes / NODE_WORDS)))
   unfolding order_in
-  numbers_every e = no_circle_count (graph_in nodes (length nodes / 9)) window (key_at keys) at_least_one (no_circle_in e)
+  numbers_every e = no_circle_count (graph_in nodes (length nodes / NODE_WORDS)) window (key_at keys) at_least_one (no_circle_in e)
 
-  stored : topological_fault nodes outputs ≡ Ok tt → window ≡ 1 → order_in nodes (length nodes / 9) window keys ≡ cells_of (graph_in nodes (length nodes / 9))
+  stored : topological_fault nodes outputs ≡ Ok tt → window ≡ 1 → order_in nodes (length nodes / NODE_WORDS) window keys ≡ cells_of (graph_in nodes (length nodes / NODE_WORDS))
   unfolding order_in
-  stored valid one = rw one (window_one (graph_in nodes (length nodes / 9)) (key_at keys) (validated_forward nodes outputs valid))
+  stored valid one = rw one (window_one (graph_in nodes (length nodes / NODE_WORDS)) (key_at keys) (validated_forward nodes outputs valid))
 
   pub promised : Promised nodes outputs window keys ready successors order
   promised =
       record {
-        ordering = ordered nodes (length nodes / 9) window keys;
+        ordering = ordered nodes (length nodes / NODE_WORDS) window keys;
         circle_refused = circle_refuses;
         refused_circle = refuses_circle;
         accepted = accepts;
         every = lists_every;
         number = numbers_every;
-        validated = λ valid. accepts (forward_no_circle (graph_in nodes (length nodes / 9)) (validated_forward nodes outputs valid));
+        validated = λ valid. accepts (forward_no_circle (graph_in nodes (length nodes / NODE_WORDS)) (validated_forward nodes outputs valid));
         storage = stored;
       }
 
 -- window 1: the whole call
 
-module _ (nodes outputs keys ready successors order : List ℕ) (valid : topological_fault nodes outputs ≡ Ok tt) (one_key : length keys ≡ 3 * (length nodes / 9)) (long : room (length nodes / 9) (length ready) (length successors) (length order) ≡ true) where
+module _ (nodes outputs keys ready successors order : List ℕ) (valid : topological_fault nodes outputs ≡ Ok tt) (one_key : length keys ≡ 3 * (length nodes / NODE_WORDS)) (long : room (length nodes / NODE_WORDS) (length ready) (length successors) (length order) ≡ true) where
   passed-one : call_fault nodes outputs 1 keys (length ready) (length successors) (length order) ≡ Ok tt
   unfolding call_fault
-  passed-one = rw (validated_records nodes outputs valid, eq-eqb (length keys) (3 * (length nodes / 9)) one_key, long)
+  passed-one = rw (validated_records nodes outputs valid, eq-eqb (length keys) (3 * (length nodes / NODE_WORDS)) one_key, long)
 
   pub stored-one : schedule_call nodes outputs 1 keys ready successors order ≡ leaves (Ok (length (stored_cells nodes))) (replicate (length ready) 0) (replicate (length successors) 0) (stored_cells nodes ++ replicate (length order - length (stored_cells nodes)) 0)
   unfolding schedule_call

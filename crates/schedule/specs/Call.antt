@@ -1,5 +1,6 @@
 -- The call: its answer, and what every lent area holds after it.
 -- Assumes nothing.
+use Rattle.circuit.specs.declared.records.TheConstants.{NODE_WORDS}
 use Rattle.std.specs.Prelude.{ℕ, ◌+◌, ◌-◌, ◌*◌, ◌/◌, Bool, not, ◌&&◌, List, ◌++◌, eqb, leb, length, replicate, Err, Ok}
 use Rattle.circuit.specs.declared.refusals.Refusal.TheVariants.{NoWindow, WrongValues, NoRoom, Circle}
 use Rattle.circuit.specs.Refusals.{Try, Checked, refuse_if, first_fault, check_then}
@@ -33,8 +34,8 @@ unfoldable pub call_fault : List ℕ → List ℕ → ℕ → List ℕ → ℕ �
 call_fault nodes outputs window keys ready successors order =
     first_fault (records_fault nodes outputs)
     (first_fault (refuse_if (eqb window 0) NoWindow)
-    (first_fault (refuse_if (not (eqb (length keys) (3 * (length nodes / 9)))) WrongValues)
-    (refuse_if (not (room (length nodes / 9) ready successors order)) NoRoom)))
+    (first_fault (refuse_if (not (eqb (length keys) (3 * (length nodes / NODE_WORDS)))) WrongValues)
+    (refuse_if (not (room (length nodes / NODE_WORDS) ready successors order)) NoRoom)))
 
 -- "17 exactly if some cells read in a circle": these are never ready, and stay out of the order (specs/Promises: exactly if there is a circle)
 unfoldable pub circle_fault : List ℕ → ℕ → ℕ → List ℕ → Checked
@@ -42,7 +43,7 @@ circle_fault nodes n window keys = refuse_if (leaves_out (order_in nodes n windo
 
 unfoldable pub schedule_fault : List ℕ → List ℕ → ℕ → List ℕ → ℕ → ℕ → ℕ → Checked
 schedule_fault nodes outputs window keys ready successors order =
-    first_fault (call_fault nodes outputs window keys ready successors order) (circle_fault nodes (length nodes / 9) window keys)
+    first_fault (call_fault nodes outputs window keys ready successors order) (circle_fault nodes (length nodes / NODE_WORDS) window keys)
 
 -- "the order is that many first records of its area", zeros after it; a refusal "zeros every area lent for writing"
 abbrev pub order_area : Checked → List ℕ → ℕ → List ℕ
@@ -67,5 +68,5 @@ left_by fault cells order ready successors size =
 unfoldable pub schedule_call : List ℕ → List ℕ → ℕ → List ℕ → List ℕ → List ℕ → List ℕ → Left
 schedule_call nodes outputs window keys ready successors order =
     left_by (schedule_fault nodes outputs window keys (length ready) (length successors) (length order))
-    (length (cells_of (graph_in nodes (length nodes / 9)))) (order_in nodes (length nodes / 9) window keys)
+    (length (cells_of (graph_in nodes (length nodes / NODE_WORDS)))) (order_in nodes (length nodes / NODE_WORDS) window keys)
     (length ready) (length successors) (length order)

@@ -1,5 +1,6 @@
 -- What is promised of the order, in the graph's terms, of every circuit for which 15, 18, 19 and 3 do not refuse.
 -- Assumes nothing.
+use Rattle.circuit.specs.declared.records.TheConstants.{NODE_WORDS}
 use Rattle.std.specs.Prelude.{◌-◌, ◌*◌, ◌++◌, true, replicate, ℕ, ◌/◌, ◌≡◌, List, length, Err, Ok}
 use Rattle.circuit.specs.declared.refusals.Refusal.TheVariants.{Circle as InCircle}
 use Rattle.circuit.specs.Check.{topological_fault}
@@ -10,16 +11,16 @@ use Rattle.schedule.specs.Call.{graph_in, order_in, room, call_fault, schedule_f
 
 -- "17 exactly if some cells read in a circle (one reading itself counts); a forward read alone is accepted"
 pub record Promised (nodes outputs : List ℕ) (window : ℕ) (keys : List ℕ) (ready successors order : ℕ) : Type 0 where
-  pub ordering : Ordering (graph_in nodes (length nodes / 9)) window (key_at keys) (order_in nodes (length nodes / 9) window keys)
-  pub circle_refused : Circle (graph_in nodes (length nodes / 9)) → schedule_fault nodes outputs window keys ready successors order ≡ Err InCircle
-  pub refused_circle : schedule_fault nodes outputs window keys ready successors order ≡ Err InCircle → Circle (graph_in nodes (length nodes / 9))
-  pub accepted : (Circle (graph_in nodes (length nodes / 9)) → ⊥) → schedule_fault nodes outputs window keys ready successors order ≡ Ok tt
+  pub ordering : Ordering (graph_in nodes (length nodes / NODE_WORDS)) window (key_at keys) (order_in nodes (length nodes / NODE_WORDS) window keys)
+  pub circle_refused : Circle (graph_in nodes (length nodes / NODE_WORDS)) → schedule_fault nodes outputs window keys ready successors order ≡ Err InCircle
+  pub refused_circle : schedule_fault nodes outputs window keys ready successors order ≡ Err InCircle → Circle (graph_in nodes (length nodes / NODE_WORDS))
+  pub accepted : (Circle (graph_in nodes (length nodes / NODE_WORDS)) → ⊥) → schedule_fault nodes outputs window keys ready successors order ≡ Ok tt
   -- otherwise every cell is listed, and their number is the length of the order
-  pub every : schedule_fault nodes outputs window keys ready successors order ≡ Ok tt → ListsAll (graph_in nodes (length nodes / 9)) (order_in nodes (length nodes / 9) window keys)
-  pub number : schedule_fault nodes outputs window keys ready successors order ≡ Ok tt → length (order_in nodes (length nodes / 9) window keys) ≡ length (cells_of (graph_in nodes (length nodes / 9)))
+  pub every : schedule_fault nodes outputs window keys ready successors order ≡ Ok tt → ListsAll (graph_in nodes (length nodes / NODE_WORDS)) (order_in nodes (length nodes / NODE_WORDS) window keys)
+  pub number : schedule_fault nodes outputs window keys ready successors order ≡ Ok tt → length (order_in nodes (length nodes / NODE_WORDS) window keys) ≡ length (cells_of (graph_in nodes (length nodes / NODE_WORDS)))
   -- a circuit that passes `validate_topological` is always ordered; with window 1 in storage order
   pub validated : topological_fault nodes outputs ≡ Ok tt → schedule_fault nodes outputs window keys ready successors order ≡ Ok tt
-  pub storage : topological_fault nodes outputs ≡ Ok tt → window ≡ 1 → order_in nodes (length nodes / 9) window keys ≡ cells_of (graph_in nodes (length nodes / 9))
+  pub storage : topological_fault nodes outputs ≡ Ok tt → window ≡ 1 → order_in nodes (length nodes / NODE_WORDS) window keys ≡ cells_of (graph_in nodes (length nodes / NODE_WORDS))
 
 -- the same of every call that 15, 18, 19 and 3 do not refuse
 abbrev pub SchedulePromised : Type 0
@@ -29,12 +30,12 @@ SchedulePromised =
 
 -- every cell of the records, in storage order
 abbrev pub stored_cells : List ℕ → List ℕ
-stored_cells nodes = cells_of (graph_in nodes (length nodes / 9))
+stored_cells nodes = cells_of (graph_in nodes (length nodes / NODE_WORDS))
 
 -- "for every circuit that the circuit check accepts, with one key per node and areas long enough, window 1 gives the cells in storage order for all keys"
 abbrev pub StoredAtWindowOne : Type 0
 StoredAtWindowOne =
-    (nodes outputs keys ready successors order : List ℕ) → topological_fault nodes outputs ≡ Ok tt → length keys ≡ 3 * (length nodes / 9)
-    → room (length nodes / 9) (length ready) (length successors) (length order) ≡ true
+    (nodes outputs keys ready successors order : List ℕ) → topological_fault nodes outputs ≡ Ok tt → length keys ≡ 3 * (length nodes / NODE_WORDS)
+    → room (length nodes / NODE_WORDS) (length ready) (length successors) (length order) ≡ true
     → schedule_call nodes outputs 1 keys ready successors order
     ≡ leaves (Ok (length (stored_cells nodes))) (replicate (length ready) 0) (replicate (length successors) 0) (stored_cells nodes ++ replicate (length order - length (stored_cells nodes)) 0)

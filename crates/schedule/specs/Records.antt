@@ -1,36 +1,35 @@
--- The node records by their words: what each read reads, and what ordering asks of them.
+-- The node records as a graph: what each read reads, and what ordering asks of them.
 -- Assumes nothing.
-use Rattle.std.specs.Prelude.{ℕ, zero, suc, ◌+◌, ◌-◌, ◌*◌, ◌/◌, ◌%◌, ◌≤◌, ◌<◌, ◌≡◌, Bool, cond, List, eqb, ltb, length, get_or}
+use Rattle.std.specs.Prelude.{ℕ, suc, ◌-◌, ◌*◌, ◌/◌, ◌%◌, ◌≤◌, ◌<◌, ◌≡◌, false, if◌then◌else◌, List, length, get_or}
 use Rattle.graphs.specs.declared.TheConstants.{READS}
+use Rattle.circuit.specs.declared.records.BoolWire.{BoolWire}
+use Rattle.circuit.specs.declared.records.BoolWire.TheVariants.{Const, Node}
+use Rattle.circuit.specs.declared.records.TheConstants.{NODE_WORDS}
+use Rattle.circuit.specs.Records.{node_at, wires_of, is_cell_node, no_wire}
+use Rattle.circuit.specs.Check.{some_not_below}
 
--- a node's words: kind (2 is a cell), count of wires, table, four of the name, first wire, second wire
-unfoldable pub cell_at : List ℕ → ℕ → Bool
-cell_at nodes k = eqb (get_or nodes (9 * k) 0) 2
+-- The wire at a position of node k; a constant where there is no such wire.
+abbrev pub wire_at : List ℕ → ℕ → ℕ → BoolWire
+wire_at nodes k position = get_or (wires_of (node_at nodes k)) position no_wire
 
--- the word of the wire at a position of a cell; 0, a constant's, where there is no such wire
-unfoldable pub wire_at : List ℕ → ℕ → ℕ → ℕ
-unfolding cell_at
-wire_at nodes k position = cond (cell_at nodes k) (cond (ltb position (get_or nodes (9 * k + 1) 0)) (get_or nodes (9 * k + 7 + position) 0) 0) 0
-
--- every wire is a constant or one of n nodes
+-- Every wire of the first n nodes is a constant or one of them.
 abbrev pub Wired : List ℕ → ℕ → Type 0
-Wired nodes n = (k position : ℕ) → k < n → position < READS → wire_at nodes k position < n + 2
+Wired nodes n = (k : ℕ) → k < n → some_not_below n (wires_of (node_at nodes k)) ≡ false
 
--- "read (cell, position)" is number 1 + READS × cell + position. What a read reads: 0 no cell, x + 1 the cell x
-abbrev pub only_cell : List ℕ → ℕ → ℕ
-only_cell nodes zero = 0
-only_cell nodes (suc zero) = 0
-only_cell nodes (suc (suc x)) = cond (eqb (get_or nodes (9 * x) 0) 2) (suc x) 0
+-- The cell that a wire reads: 0 where it reads none, x + 1 for the cell x.
+abbrev pub cell_read : List ℕ → BoolWire → ℕ
+cell_read nodes (Const b) = 0
+cell_read nodes (Node x) = if is_cell_node (node_at nodes x.0) then suc x.0 else 0
 
+-- What a read reads; read (node, position) is number READS × node + 1 + position.
 unfoldable pub source_of : List ℕ → ℕ → ℕ
-unfolding wire_at
-source_of nodes e = only_cell nodes (wire_at nodes ((e - 1) / READS) ((e - 1) % READS))
+source_of nodes e = cell_read nodes (wire_at nodes ((e - 1) / READS) ((e - 1) % READS))
 
--- what ordering asks, once 15, 18, 19 and 3 are looked at
+-- What ordering asks of the areas of a call that is not refused before.
 pub record Orderable (nodes : List ℕ) (keys window ready successors order : ℕ) : Type 0 where
-  pub wired : Wired nodes (length nodes / 9)
+  pub wired : Wired nodes (length nodes / NODE_WORDS)
   pub window_is : 1 ≤ window
-  pub keys_are : keys ≡ 3 * (length nodes / 9)
-  pub ready_room : 3 * (length nodes / 9) ≤ ready
-  pub successor_room : READS * (length nodes / 9) < successors
-  pub order_room : length nodes / 9 ≤ order
+  pub keys_are : keys ≡ 3 * (length nodes / NODE_WORDS)
+  pub ready_room : 3 * (length nodes / NODE_WORDS) ≤ ready
+  pub successor_room : READS * (length nodes / NODE_WORDS) < successors
+  pub order_room : length nodes / NODE_WORDS ≤ order

@@ -1,12 +1,14 @@
 // The checks of the call, and the order or a circle.
 ghost use Rattle.std.specs.Prelude.{◌≡◌, ◌+◌, ◌*◌, ◌/◌, ◌^◌, ◌<◌, length};
 ghost use Rattle.graphs.specs.Graph.{cells_of};
+ghost use Rattle.circuit.specs.declared.records.TheConstants.{NODE_WORDS};
 ghost use Rattle.schedule.specs.Call.{room, call_fault, circle_fault, graph_in, order_in, leaves, left_by};
 ghost use Rattle.schedule.specs.Records.{Orderable};
 
 use crate::reads::Netlist;
 use circuit::check::check_records;
 use circuit::nodes::Nodes;
+use circuit::records::NODE_WORDS;
 use circuit::refusals::Refusal;
 use graphs::READS;
 use ordering::taking::{count_cells, fresh_order};
@@ -14,7 +16,7 @@ use std::num::NonZeroUsize;
 
 // Whether the areas have room for n nodes.
 pub fn has_room(n: usize, ready: usize, successors: usize, order: usize) -> bool
-    requires { 9 * n < 2 ^ 64 }
+    requires { NODE_WORDS * n < 2 ^ 64 }
     ensures { result ≡ room n ready successors order }
 {
     3 * n <= ready && READS * n < successors && n <= order
@@ -36,7 +38,7 @@ pub fn call_fault(
     if window == 0 {
         return Err(Refusal::NoWindow);
     }
-    let n = nodes.len() / 9;
+    let n = nodes.len() / NODE_WORDS;
     if keys.len() != 3 * n {
         return Err(Refusal::WrongValues);
     }
@@ -56,7 +58,7 @@ pub fn order_or_circle(
     order: &mut [usize],
 ) -> Result<usize, Refusal>
     requires { Orderable nodes.now (length keys.now) window (length ready.old) (length successors.old) (length order.old) }
-    ensures { leaves result ready.new successors.new order.new ≡ left_by (circle_fault nodes.now (length nodes.now / 9) window keys.now) (length (cells_of (graph_in nodes.now (length nodes.now / 9)))) (order_in nodes.now (length nodes.now / 9) window keys.now) (length ready.old) (length successors.old) (length order.old) }
+    ensures { leaves result ready.new successors.new order.new ≡ left_by (circle_fault nodes.now (length nodes.now / NODE_WORDS) window keys.now) (length (cells_of (graph_in nodes.now (length nodes.now / NODE_WORDS)))) (order_in nodes.now (length nodes.now / NODE_WORDS) window keys.now) (length ready.old) (length successors.old) (length order.old) }
 {
     let netlist = Netlist {
         nodes: Nodes::of(nodes),

@@ -1,15 +1,16 @@
 // The reads of the cells of node records: what each reads.
-ghost use Rattle.std.specs.Prelude.{◌≡◌, ◌<◌, MatchOption};
+ghost use Rattle.std.specs.Prelude.{◌≡◌, ◌<◌};
 ghost use Rattle.graphs.specs.declared.TheConstants.{READS};
-ghost use Rattle.ordering.specs.Areas.{Sourced};
+ghost use Rattle.ordering.specs.Areas.{Sourced, entry_of};
 ghost use Rattle.schedule.specs.Call.{graph_in};
-ghost use Rattle.schedule.specs.Records.{wire_at, Wired, source_of};
+ghost use Rattle.schedule.specs.Records.{wire_at, Wired, cell_read, source_of};
 
 use circuit::nodes::Nodes;
-use ordering::graph::Graph;
+use circuit::records::BoolWire;
 use graphs::READS;
+use ordering::graph::Graph;
 
-// The nodes of a circuit, of which every wire is a constant or one of them: so what they read is what their graph reads.
+/// The nodes of a circuit, of which every wire is a constant or one of them: so what they read is what their graph reads.
 #[derive(Clone, Copy)]
 pub struct Netlist<'a> {
     pub nodes: Nodes<'a>,
@@ -17,16 +18,20 @@ pub struct Netlist<'a> {
     ghost sourced: { Sourced (source_of nodes.words.now) (graph_in nodes.words.now nodes.count) },
 }
 
-// The word of the wire at a position of a cell, if there is one.
-pub fn wire_at(nodes: Nodes, node: usize, position: usize) -> Option<usize>
-    requires { (node < nodes.count) × (position < READS) }
-    ensures { MatchOption result (0 ≡ wire_at nodes.entry.words.now node position) (λ w. w ≡ wire_at nodes.entry.words.now node position) }
-{
-    let at = 9 * node;
-    if !nodes.is_cell(node) || nodes.words[at + 1] <= position {
-        return None;
+impl<'a> Netlist<'a> {
+    /// The cell that the wire at a position of a node reads, if there is such a wire and it reads a cell.
+    pub fn cell_read(&self, node: usize, position: usize) -> Option<usize>
+        requires { node < self.now.nodes.count }
+        ensures { entry_of result ≡ cell_read self.now.nodes.words.now (wire_at self.now.nodes.words.now node position) }
+    {
+        if self.nodes.wire_count(node) <= position {
+            return None;
+        }
+        match self.nodes.wire(node, position) {
+            BoolWire::Const(_) => None,
+            BoolWire::Node(read) => self.nodes.is_cell(read.0).then_some(read.0),
+        }
     }
-    Some(nodes.words[at + 7 + position])
 }
 
 impl<'a> Graph for Netlist<'a> {
@@ -42,9 +47,9 @@ impl<'a> Graph for Netlist<'a> {
         self.nodes.is_cell(node)
     }
 
+    #[tactic(auto, unfolding(crate::specs::Records::source_of))]
     fn source(&self, edge: usize) -> Option<usize> {
-        let node = wire_at(self.nodes, (edge - 1) / READS, (edge - 1) % READS)?.checked_sub(2)?;
-        self.nodes.is_cell(node).then_some(node)
+        self.cell_read((edge - 1) / READS, (edge - 1) % READS)
     }
 
     ghost sourced = { λ netlist. netlist.sourced };

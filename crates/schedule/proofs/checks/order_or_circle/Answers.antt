@@ -1,6 +1,7 @@
 use Prim.Native.Nat.{◌/◌}
 use native.Mathlib.Omega.{arith}
 use lib.ListN.{length}
+use Rattle.circuit.specs.declared.records.TheConstants.{NODE_WORDS}
 use Rattle.schedule.proofs.Records.{length_in}
 use Rattle.schedule.proofs.Sources.{sourced}
 use borrow.Author.Rules.{rules}
@@ -13,7 +14,7 @@ invariant_of-netlist c = let w = c.requires.wired in rw (c.of.ensures.0, c.of.en
 
 pub fresh_order-taken-requires : goal.fresh_order-taken-requires
 fresh_order-taken-requires c =
-    rw (c.of.ensures.0, c.of.ensures.1, length_in c.args.nodes.now (length c.args.nodes.now / 9))
+    rw (c.of.ensures.0, c.of.ensures.1, length_in c.args.nodes.now (length c.args.nodes.now / NODE_WORDS))
     (c.requires.ready_room, c.requires.successor_room, omega (arith, c.requires.keys_are), c.requires.order_room)
 
 pub returns-then-taken-count_cells : goal.returns-then-taken-count_cells
