@@ -50,10 +50,11 @@ extern "C" {
 #define RELAY_UNFIT_ORDER 20     /* not each cell once after those that it reads */
 #define RELAY_TOO_MANY_INPUTS 21 /* numbered assignment with over 20 inputs */
 
-/* Words of a record. A node: kind, wire count, table (entry j is bit j), name (4 words), two wires. An output: name (4 words), wire. */
+/* Words of a record. A node: kind, wire count, table (entry j is bit j), name (4 words), two wires. An output: name (4 words), wire.
+ * The area of names is a work area: what stands in its records is no part of an answer. */
 #define RELAY_NODE_WORDS 9
 #define RELAY_OUTPUT_WORDS 5
-#define RELAY_NAME_WORDS 4
+#define RELAY_NAME_WORDS 5
 #define RELAY_KEY_NUMBERS 3
 
 /* Places in a node record and in an output record. */

@@ -7,6 +7,9 @@ use std::time::Duration;
 
 const OLD: usize = 0x5555_5555;
 
+/// Words of a name record.
+const NAME_WORDS: usize = 5;
+
 /// Areas that were allocated once, with old contents.
 pub struct Areas {
     joined: Vec<u8>,
@@ -23,7 +26,7 @@ impl Areas {
         Self {
             joined: vec![0x55; bytes + 1],
             nodes: vec![OLD; 9 * records],
-            names: vec![OLD; 4 * records],
+            names: vec![OLD; NAME_WORDS * records],
             outputs: vec![OLD; 5 * records],
             wires: vec![OLD; records],
         }
@@ -36,7 +39,7 @@ impl Areas {
         Self {
             joined: vec![0x55; text.len() + 1],
             nodes: vec![OLD; 9 * nodes],
-            names: vec![OLD; 4 * nodes],
+            names: vec![OLD; NAME_WORDS * nodes],
             outputs: vec![OLD; 5 * outputs],
             wires: vec![OLD; nodes],
         }

@@ -3,6 +3,9 @@ use crate::generate::Format;
 use crate::reference::records::{self, Places, MOST};
 use crate::reference::{BoolCircuit, BoolNode, BoolWire};
 
+/// Words of a name record.
+pub const NAME_WORDS: usize = 5;
+
 /// Words (for the joined text, bytes) of each area that is lent.
 #[derive(Clone, Copy, Debug)]
 pub struct Lent {
@@ -16,12 +19,12 @@ pub struct Lent {
 impl Lent {
     /// Areas that just hold so many records.
     pub fn exactly(places: Places, text: usize) -> Self {
-        Self { joined: text + 1, nodes: places.nodes * 9, names: places.names * 4, outputs: places.outputs * 5, wires: places.wires }
+        Self { joined: text + 1, nodes: places.nodes * 9, names: places.names * NAME_WORDS, outputs: places.outputs * 5, wires: places.wires }
     }
 
     fn holds(&self, places: Places) -> bool {
         let enough = |words: usize, width: usize, needed: usize| needed <= (words / width).min(MOST);
-        enough(self.nodes, 9, places.nodes) && enough(self.names, 4, places.names) && enough(self.outputs, 5, places.outputs) && enough(self.wires, 1, places.wires)
+        enough(self.nodes, 9, places.nodes) && enough(self.names, NAME_WORDS, places.names) && enough(self.outputs, 5, places.outputs) && enough(self.wires, 1, places.wires)
     }
 }
 

@@ -1,5 +1,5 @@
 //! The list programs: what each must print, from the reference's circuit and order, and what it prints.
-use crate::expected::{expected, Expected, Lent};
+use crate::expected::{expected, Expected, Lent, NAME_WORDS};
 use crate::generate::Format;
 use crate::reference::{BoolCircuit, BoolNode, BoolWire};
 use std::io::{Read, Write};
@@ -8,7 +8,7 @@ use std::process::{Command, Stdio};
 
 /// 01: "at most 32,768 bytes (more: `refused 1`), with places for 1,024 nodes, names, outputs and wires each".
 const MOST_BYTES: usize = 32_768;
-const ROOM: Lent = Lent { joined: MOST_BYTES + 1, nodes: 1024 * 9, names: 1024 * 4, outputs: 1024 * 5, wires: 1024 };
+const ROOM: Lent = Lent { joined: MOST_BYTES + 1, nodes: 1024 * 9, names: 1024 * NAME_WORDS, outputs: 1024 * 5, wires: 1024 };
 
 fn wire(wire: &BoolWire) -> String {
     match wire {

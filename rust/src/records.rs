@@ -3,7 +3,7 @@ use crate::circuit::{BoolCircuit, BoolNode, BoolWire};
 
 pub const NODE_WORDS: usize = 9;
 pub const OUTPUT_WORDS: usize = 5;
-pub const NAME_WORDS: usize = 4;
+pub const NAME_WORDS: usize = 5;
 
 const INPUT: usize = 1;
 const CELL: usize = 2;

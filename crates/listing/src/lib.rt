@@ -9,3 +9,6 @@ pub mod lines;
 pub mod pieces;
 #[cfg(test)]
 mod tests;
+
+/// How many nodes, names, outputs and wires a program that lists circuits has places for.
+pub const LISTED: usize = 1024;

@@ -1,10 +1,10 @@
 -- Worked examples of the definitions, by computation: names of the text "abba", whose wires' words are 5, 7, 9.
 -- Assumes nothing.
 use Rattle.std.specs.Prelude.{None, Some}
-use Rattle.std.proofs.Common.{◌≡◌, ℕ, List, [], ◌∷◌, get_or, refl}
+use Rattle.std.proofs.Common.{◌≡◌, ℕ, List, [], ◌∷◌, ◌++◌, map, replicate, get_or, refl}
 use Rattle.laws.specs.Stretches.{stretch, same_bytes}
 use Rattle.names.specs.Names.{Entry, lookup}
-use Rattle.names.specs.Chains.{wrapping_sum, word_of, mix_in, mixed, bucket_of, trail_of, rest_of, digit_at, prefix_of, trail_in, entry, entries, link_of, link_at, bucket_at, trail_at, agrees, first, first_after, reached}
+use Rattle.names.specs.Chains.{wrapping_sum, bucket_of, word_of, mix_in, mixed, hash_of, key_of, digit_of, entry, entries, link_of, link_at, next, reached}
 
 abba : List ℕ
 abba = 97 ∷ 98 ∷ 98 ∷ 97 ∷ []
@@ -20,35 +20,48 @@ two = record { start = 2; len = 2; wire = 7 } ∷ record { start = 0; len = 2; w
 
 -- the area that holds these two, the first record linking to the second by the first digit of "ba"
 area : List ℕ
-area = 7576387181334233088 ∷ 5 ∷ 4194304 ∷ 0 ∷ 6752575895199809538 ∷ 7 ∷ 0 ∷ 0 ∷ 0 ∷ 0 ∷ 0 ∷ 0 ∷ []
+area = 115603339739138 ∷ 8589934592 ∷ 0 ∷ 0 ∷ 5 ∷ 103031970463746 ∷ 0 ∷ 0 ∷ 2 ∷ 7 ∷ []
+
+-- the head of their bucket is the first record's
+heads : List ℕ
+heads = replicate 195 0 ++ 1 ∷ replicate 60 0
 
 area_holds : entries area 2 ≡ two
 unfolding area two entries entry
 area_holds = refl
 
-first_digit : digit_at (trail_of (98 ∷ 97 ∷ [])) 0 ≡ 2
-unfolding digit_at rest_of trail_of mixed word_of mix_in
+key-is : get_or area 5 0 ≡ key_of (98 ∷ 97 ∷ [])
+unfolding area key_of hash_of mixed word_of mix_in
+key-is = refl
+
+first_digit : digit_of (98 ∷ 97 ∷ []) 0 ≡ 1
+unfolding digit_of key_of hash_of mixed word_of mix_in
 first_digit = refl
 
-link_is : link_at area 0 2 ≡ 2
+link_is : link_at area 0 1 ≡ 2
 unfolding area link_at link_of
 link_is = refl
 
-trail_is : trail_in (get_or area 4 0) ≡ trail_of (98 ∷ 97 ∷ [])
-unfolding area trail_of mixed word_of mix_in
-trail_is = refl
+-- digits of the length and of the bytes, and past the end
+length_digit : digit_of (98 ∷ 97 ∷ []) 23 ≡ 2
+unfolding digit_of key_of hash_of mixed word_of mix_in
+length_digit = refl
+
+byte_digits : map (digit_of (98 ∷ 97 ∷ [])) (24 ∷ 25 ∷ 26 ∷ 27 ∷ 28 ∷ 31 ∷ 32 ∷ []) ≡ 1 ∷ 2 ∷ 0 ∷ 2 ∷ 1 ∷ 1 ∷ 0 ∷ []
+unfolding digit_of key_of hash_of mixed word_of mix_in
+byte_digits = refl
 
 -- the search for "ba" comes to the first record, then to the second
-head_is : reached abba area 2 (bucket_of (98 ∷ 97 ∷ [])) (trail_of (98 ∷ 97 ∷ [])) 0 ≡ 1
-unfolding abba area reached first agrees prefix_of digit_at rest_of bucket_at trail_at entry bucket_of wrapping_sum trail_of mixed word_of mix_in stretch
+head_is : reached heads area (98 ∷ 97 ∷ []) 0 ≡ 1
+unfolding heads reached bucket_of wrapping_sum
 head_is = refl
 
-next-is : reached abba area 2 (bucket_of (98 ∷ 97 ∷ [])) (trail_of (98 ∷ 97 ∷ [])) 1 ≡ 2
-unfolding abba area reached first first_after agrees prefix_of digit_at rest_of bucket_at trail_at entry bucket_of wrapping_sum trail_of mixed word_of mix_in stretch
+next-is : reached heads area (98 ∷ 97 ∷ []) 1 ≡ 2
+unfolding heads area reached next link_at link_of bucket_of wrapping_sum digit_of key_of hash_of mixed word_of mix_in
 next-is = refl
 
-end_is : reached abba area 2 (bucket_of (98 ∷ 97 ∷ [])) (trail_of (98 ∷ 97 ∷ [])) 2 ≡ 0
-unfolding abba area reached first first_after agrees prefix_of digit_at rest_of bucket_at trail_at entry bucket_of wrapping_sum trail_of mixed word_of mix_in stretch
+end_is : reached heads area (98 ∷ 97 ∷ []) 2 ≡ 0
+unfolding heads area reached next link_at link_of bucket_of wrapping_sum digit_of key_of hash_of mixed word_of mix_in
 end_is = refl
 
 finds_older : lookup abba (97 ∷ 98 ∷ []) two ≡ Some 5

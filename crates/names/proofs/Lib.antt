@@ -1,11 +1,10 @@
 pub mod Words
 pub mod Hashes
-pub mod First
-pub mod Trails
-pub mod ChainLaws
-pub mod Defining
 pub mod Links
+pub mod Searches
+pub mod Defining
 pub mod Defined
+pub mod Bounds
 pub mod Orders
 pub mod Examples
 pub mod Lookups

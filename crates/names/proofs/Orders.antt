@@ -7,24 +7,27 @@ use lib.ListN.{length-replicate, get_or-replicate}
 use Rattle.laws.specs.Stretches.{same_bytes}
 use Rattle.laws.proofs.Stretches.{same_eq}
 use Rattle.names.specs.Names.{Entry, name_of, lookup}
-use Rattle.names.specs.Chains.{agrees, first, first_after, reached, Table}
-use Rattle.names.proofs.First.{after_last}
+use Rattle.names.specs.Chains.{bucket_of, digit_of, next, reached, Table}
+use Rattle.names.specs.declared.records.TheConstants.{HALF}
+use Rattle.names.proofs.Searches.{bucket_small}
 
-none-reached : (text names : List ℕ) (b h d : ℕ) → reached text names 0 b h d ≡ 0
-unfolding reached first
-none-reached text names b h zero = refl
-none-reached text names b h (suc d) = ap (first_after (agrees text names b h (suc d)) 0) (none-reached text names b h d) ∙ after_last (agrees text names b h (suc d)) 0
+none-reached : (names w : List ℕ) (d : ℕ) → reached (replicate 256 0) names w d ≡ 0
+unfolding reached next
+none-reached names w zero = get_or-replicate 256 (bucket_of w) 0 0 (bucket_small w)
+none-reached names w (suc d) = ap (λ (x : ℕ). next names x (digit_of w d)) (none-reached names w d)
 
-pub empty_table : (text names : List ℕ) → length text < 2097152 → Table text (replicate 256 0) names 0
+pub empty_table : (text names : List ℕ) → length text < HALF → Table text (replicate 256 0) names 0
 empty_table text names h =
     record {
       sized = h;
       heads_sized = length-replicate {A = ℕ} 256 0;
       room = omega arith;
       inside = λ k l. absurd (omega arith);
-      trail = λ k l. absurd (omega arith);
-      head = λ b g l. get_or-replicate 256 b 0 0 l ∙ sym (none-reached text names b g 0);
-      link = λ b g d k e. absurd (omega (arith, none-reached text names b g d));
+      keyed = λ k l. absurd (omega arith);
+      head = λ b j l e. absurd (omega (arith, get_or-replicate {A = ℕ} 256 b 0 0 l, e));
+      link = λ k x j l m e. absurd (omega arith);
+      there = λ k l. absurd (omega arith);
+      alike = λ w d k e. absurd (omega (arith, none-reached names w d, e));
     }
 
 abbrev pub Distinct : List ℕ → List Entry → Type 0

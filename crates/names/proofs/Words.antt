@@ -9,10 +9,7 @@ use Rattle.laws.specs.Stretches.{stretch, same_bytes}
 use Rattle.laws.proofs.Stretches.{rest_step, head_step, stretch-none, drop-stretch}
 use Rattle.text.proofs.ByteLaws.{same_pointwise}
 use Rattle.names.specs.Chains.{word_of}
-
--- each element is a byte
-abbrev pub Bytes : List ℕ → Type 0
-Bytes l = (i : ℕ) → get_or l i 0 < 256
+use Rattle.names.specs.Bounds.{Bytes}
 
 bytes_rest : (a : ℕ) (l : List ℕ) → Bytes (a ∷ l) → Bytes l
 bytes_rest a l f i = f (suc i)

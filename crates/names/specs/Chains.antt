@@ -1,7 +1,8 @@
 -- The name table: the entries that the records of the name area hold, and the chains that lead to them.
 -- Assumes nothing.
-use Rattle.std.specs.Prelude.{◌≡◌, ℕ, zero, suc, ◌+◌, ◌-◌, ◌*◌, ◌/◌, ◌%◌, ◌^◌, ◌<◌, ◌≤◌, Bool, cond, ◌&&◌, List, [], ◌∷◌, length, ◌==◌, ◌≢◌, slice_index, slice_set}
+use Rattle.std.specs.Prelude.{◌≡◌, ℕ, zero, suc, ◌+◌, ◌-◌, ◌*◌, ◌/◌, ◌%◌, ◌^◌, ◌<◌, ◌≤◌, if◌then◌else◌, ltb, List, [], ◌∷◌, length, ◌≢◌, slice_index, slice_set}
 use Rattle.names.specs.Names.{Entry, name_of}
+use Rattle.names.specs.declared.records.TheConstants.{NAME_WORDS, LINKS_AT, START_AT, WIRE_AT, HALF_BITS, HALF, DIGIT_BITS, LINKS, WORD_LINKS, KEY_DIGITS, BYTE_DIGITS}
 
 -- a 32-bit wrapping sum of bytes, on top of s
 unfoldable pub wrapping_sum : ℕ → List ℕ → ℕ
@@ -33,110 +34,92 @@ mixed s (a ∷ b ∷ []) = mix_in s (word_of (a ∷ b ∷ []))
 mixed s (a ∷ b ∷ c ∷ []) = mix_in s (word_of (a ∷ b ∷ c ∷ []))
 mixed s (a ∷ b ∷ c ∷ d ∷ bs) = mixed (mix_in s (word_of (a ∷ b ∷ c ∷ d ∷ []))) bs
 
--- a second hash of a name: its successive digits choose among the six records that a record links to
-unfoldable pub trail_of : List ℕ → ℕ
-trail_of bytes = mixed 0 bytes / 1024
+-- a second hash of a name: 16 bits of that
+unfoldable pub hash_of : List ℕ → ℕ
+hash_of bytes = mixed 0 bytes / 65536
 
--- a trail as a fraction of 2^22: what is left of it after d digits in base 6, the highest first
-unfoldable pub rest_of : ℕ → ℕ → ℕ
-rest_of h zero = h % 4194304
-rest_of h (suc d) = rest_of h d * 6 % 4194304
+-- the key of a name: its length, and in the upper half of the word that hash
+unfoldable pub key_of : List ℕ → ℕ
+key_of bytes = length bytes + hash_of bytes * HALF
 
--- the first digit of what is left
-abbrev pub digit_of : ℕ → ℕ
-digit_of rest = rest * 6 / 4194304
+-- digit i of a number that has n digits, the highest first
+abbrev pub digit_in : ℕ → ℕ → ℕ → ℕ
+digit_in x n i = x / 2 ^ ((n - 1 - i) * DIGIT_BITS) % LINKS
 
--- digit d
-unfoldable pub digit_at : ℕ → ℕ → ℕ
-digit_at h d = digit_of (rest_of h d)
+-- digit d of a name: those of its key first (of the hash, then of the length), then those of each byte in turn; the length stands before the bytes, so that no
+-- name's digits are the start of another's
+unfoldable pub digit_of : List ℕ → ℕ → ℕ
+digit_of bytes d =
+    if ltb d KEY_DIGITS then digit_in (key_of bytes) KEY_DIGITS d
+    else digit_in (slice_index bytes ((d - KEY_DIGITS) / BYTE_DIGITS)) BYTE_DIGITS ((d - KEY_DIGITS) % BYTE_DIGITS)
 
--- the first d digits
-unfoldable pub prefix_of : ℕ → ℕ → ℕ
-prefix_of h zero = 0
-prefix_of h (suc d) = prefix_of h d * 6 + digit_at h d
-
--- ---- records of four words: start, length and trail of the name; wire; three links; three links
-
-abbrev pub start_in : ℕ → ℕ
-start_in word = word % 2097152
-
-abbrev pub len_in : ℕ → ℕ
-len_in word = word / 2097152 % 2097152
-
-abbrev pub trail_in : ℕ → ℕ
-trail_in word = word / 4398046511104
+-- ---- records: key; four links, each half a word; start; wire
 
 unfoldable pub entry : List ℕ → ℕ → Entry
-entry names k = record { start = start_in (slice_index names (k * 4)); len = len_in (slice_index names (k * 4)); wire = slice_index names (k * 4 + 1) }
+entry names k = record {
+  start = slice_index names (k * NAME_WORDS + START_AT);
+  len = slice_index names (k * NAME_WORDS) % HALF;
+  wire = slice_index names (k * NAME_WORDS + WIRE_AT);
+}
 
 -- the first n records, the newest first
 unfoldable pub entries : List ℕ → ℕ → List Entry
 entries names zero = []
 entries names (suc k) = entry names k ∷ entries names k
 
--- a word of links has three of 21 bits (0, or one more than a record's number)
+unfoldable pub name_at : List ℕ → List ℕ → ℕ → List ℕ
+name_at text names k = name_of text (entry names k)
+
+-- a link (0, or one more than a record's number) is half a word
 unfoldable pub link_of : ℕ → ℕ → ℕ
-link_of word zero = word % 2097152
-link_of word (suc zero) = word / 2097152 % 2097152
-link_of word (suc (suc place)) = word / 4398046511104 % 2097152
+link_of word place = word / 2 ^ (place * HALF_BITS) % HALF
 
--- what a link adds to its word
-unfoldable pub link_unit : ℕ → ℕ
-link_unit zero = 1
-link_unit (suc zero) = 2097152
-link_unit (suc (suc place)) = 4398046511104
+-- where the word of the link stands that a digit chooses in the record at `base`
+abbrev pub link_place : ℕ → ℕ → ℕ
+link_place base digit = base + LINKS_AT + digit / WORD_LINKS
 
--- the link that a digit chooses in a record: the word by its parity, the place there by its half
+-- that link
 unfoldable pub link_at : List ℕ → ℕ → ℕ → ℕ
-link_at names base digit = link_of (slice_index names (base + 2 + digit % 2)) (digit / 2)
+link_at names base digit = link_of (slice_index names (link_place base digit)) (digit % WORD_LINKS)
 
-unfoldable pub bucket_at : List ℕ → List ℕ → ℕ → ℕ
-bucket_at text names k = bucket_of (name_of text (entry names k))
+-- ---- what hangs at the 256 heads: chained records, of which each links to one further record for every digit
 
-unfoldable pub trail_at : List ℕ → List ℕ → ℕ → ℕ
-trail_at text names k = trail_of (name_of text (entry names k))
+-- the record that a digit's link leads to: a record goes by one more than its number, none by 0
+unfoldable pub next : List ℕ → ℕ → ℕ → ℕ
+next names zero digit = 0
+next names (suc k) digit = link_at names (k * NAME_WORDS) digit
 
--- ---- chains: 01's "256 chain heads, each the start of chained name records", six links to a record
+-- what a search for a name comes to after d links, each chosen by a digit of the name
+unfoldable pub reached : List ℕ → List ℕ → List ℕ → ℕ → ℕ
+reached heads names w zero = slice_index heads (bucket_of w)
+reached heads names w (suc d) = next names (reached heads names w d) (digit_of w d)
 
--- record k is of bucket b, and agrees with trail h in its first d digits
-unfoldable pub agrees : List ℕ → List ℕ → ℕ → ℕ → ℕ → ℕ → Bool
-agrees text names b h d k = bucket_at text names k == b && prefix_of (trail_at text names k) d == prefix_of h d
+-- two names are of one bucket and alike in their first d digits
+abbrev pub Alike : List ℕ → List ℕ → ℕ → Type 0
+Alike v w d = (bucket_of v ≡ bucket_of w) × ((i : ℕ) → i < d → digit_of v i ≡ digit_of w i)
 
--- one more than the first of the n numbers from k on that passes a test; 0 if none does
-unfoldable pub first : (ℕ → Bool) → ℕ → ℕ → ℕ
-first p k zero = 0
-first p k (suc n) = cond (p k) (suc k) (first p (suc k) n)
-
--- the first after a record that passes a test; none after none
-unfoldable pub first_after : (ℕ → Bool) → ℕ → ℕ → ℕ
-first_after p count zero = 0
-first_after p count (suc k) = first p (suc k) (count - suc k)
-
--- what a search of bucket b along trail h comes to after d links: the first record of the bucket, then each time the first after it that agrees in a digit more
-unfoldable pub reached : List ℕ → List ℕ → ℕ → ℕ → ℕ → ℕ → ℕ
-reached text names count b h zero = first (agrees text names b h 0) 0 count
-reached text names count b h (suc d) = first_after (agrees text names b h (suc d)) count (reached text names count b h d)
-
--- the table is in order: the text is short enough for its records, there are 256 heads, each name lies in the text and has its trail in its record, and heads
--- and links lead along each trail
+-- the table is in order: the text is short enough for its records, there are 256 heads, each name lies in the text and has its key in its record, heads lead to
+-- records and links to later ones, the search for a record's name comes to the record, and whatever a search comes to is alike so far
 pub record Table (text heads names : List ℕ) (count : ℕ) : Type 0 where
-  pub sized : length text < 2097152
+  pub sized : length text < HALF
   pub heads_sized : length heads ≡ 256
-  pub room : count * 4 ≤ length names
-  pub inside : (k : ℕ) → k < count → start_in (slice_index names (k * 4)) + len_in (slice_index names (k * 4)) ≤ length text
-  pub trail : (k : ℕ) → k < count → trail_in (slice_index names (k * 4)) ≡ trail_at text names k
-  pub head : (b h : ℕ) → b < 256 → slice_index heads b ≡ reached text names count b h 0
-  pub link : (b h d k : ℕ) → reached text names count b h d ≡ suc k → link_at names (k * 4) (digit_at h d) ≡ reached text names count b h (suc d)
+  pub room : count * NAME_WORDS ≤ length names
+  pub inside : (k : ℕ) → k < count → slice_index names (k * NAME_WORDS + START_AT) + slice_index names (k * NAME_WORDS) % HALF ≤ length text
+  pub keyed : (k : ℕ) → k < count → slice_index names (k * NAME_WORDS) ≡ key_of (name_at text names k)
+  pub head : (b j : ℕ) → b < 256 → slice_index heads b ≡ suc j → j < count
+  pub link : (k x j : ℕ) → k < count → x < LINKS → link_at names (k * NAME_WORDS) x ≡ suc j → (k < j) × (j < count)
+  pub there : (k : ℕ) → k < count → ∥ ((d : ℕ) × (reached heads names (name_at text names k) d ≡ suc k)) ∥₁
+  pub alike : (w : List ℕ) (d k : ℕ) → reached heads names w d ≡ suc k → Alike (name_at text names k) w d
 
 -- where a search ends: in front of it a head, or a record and one of its links
-abbrev pub Behind : (ℕ → ℕ) → ℕ → ℕ → ℕ → ℕ → Type 0
-Behind at h last digit zero = last ≡ 0
-Behind at h last digit (suc d) = (at d ≡ last) × (last ≢ 0) × (digit ≡ digit_at h d)
+abbrev pub Behind : (ℕ → ℕ) → List ℕ → ℕ → ℕ → ℕ → Type 0
+Behind at w last digit zero = last ≡ 0
+Behind at w last digit (suc d) = (at d ≡ last) × (last ≢ 0) × (digit ≡ digit_of w d)
 
-pub record EndsAt (text names : List ℕ) (count : ℕ) (bytes : List ℕ) (last digit : ℕ) : Type 0 where
+pub record EndsAt (heads names : List ℕ) (w : List ℕ) (last digit : ℕ) : Type 0 where
   pub depth : ℕ
-  pub ended : reached text names count (bucket_of bytes) (trail_of bytes) depth ≡ 0
-  pub behind : Behind (reached text names count (bucket_of bytes) (trail_of bytes)) (trail_of bytes) last digit depth
+  pub ended : reached heads names w depth ≡ 0
+  pub behind : Behind (reached heads names w) w last digit depth
 
 -- the heads and the area after a link to record number n - 1 is set there
 unfoldable pub headed : List ℕ → ℕ → ℕ → ℕ → List ℕ
@@ -145,12 +128,16 @@ headed heads b (suc k) n = heads
 
 unfoldable pub linked : List ℕ → ℕ → ℕ → ℕ → List ℕ
 linked names zero digit n = names
-linked names (suc k) digit n = slice_set names (k * 4 + 2 + digit % 2) (slice_index names (k * 4 + 2 + digit % 2) + n * link_unit (digit / 2))
+linked names (suc k) digit n =
+    let at = link_place (k * NAME_WORDS) digit in
+    slice_set names at (slice_index names at + n * 2 ^ (digit % WORD_LINKS * HALF_BITS))
 
 -- there is room for that
 abbrev pub LinkFits : List ℕ → ℕ → ℕ → ℕ → Type 0
 LinkFits names zero digit n = Unit
-LinkFits names (suc k) digit n = (k * 4 + 2 + digit % 2 < length names) × (slice_index names (k * 4 + 2 + digit % 2) + n * link_unit (digit / 2) < 2 ^ 64)
+LinkFits names (suc k) digit n =
+    let at = link_place (k * NAME_WORDS) digit in
+    (at < length names) × (slice_index names at + n * 2 ^ (digit % WORD_LINKS * HALF_BITS) < 2 ^ 64)
 
 -- the table is in order, and its entries are one more than those before
 pub record Defined (text heads names : List ℕ) (count : ℕ) (e : Entry) (before : List Entry) : Type 0 where

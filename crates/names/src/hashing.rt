@@ -1,8 +1,10 @@
-// The bucket of a name and its trail: two hashes of its bytes.
+// The bucket of a name and its key: two hashes of its bytes, and its length.
 ghost use Rattle.std.specs.Prelude.{◌≡◌, ◌+◌, ◌-◌, ◌*◌, ◌/◌, ◌^◌, ◌<◌, ◌≤◌, length, slice_index};
 ghost use Rattle.laws.specs.Stretches.{stretch};
-ghost use Rattle.names.specs.Chains.{wrapping_sum, sum_in, bucket_of, word_of, mix_in, mixed, trail_of};
+ghost use Rattle.text.specs.Words.{bytes_of};
+ghost use Rattle.names.specs.Chains.{wrapping_sum, sum_in, bucket_of, word_of, mix_in, mixed, key_of};
 
+use crate::records::HALF;
 use text::words::Word;
 
 // Four bytes as one number, the first the lowest.
@@ -16,7 +18,7 @@ pub fn four_bytes(text: &[u8], at: usize) -> u32
 // Fewer than four bytes as one number, the last of the text.
 pub fn few_bytes(text: &[u8], word: Word) -> u32
     requires { (word.start + word.len ≤ length text.now) × (word.len < 4) }
-    ensures { result ≡ word_of (stretch text.now word.start word.len) }
+    ensures { result ≡ word_of (bytes_of text.now word) }
 {
     let at = word.start;
     match word.len {
@@ -30,7 +32,7 @@ pub fn few_bytes(text: &[u8], word: Word) -> u32
 // Fewer than four bytes as one number. Four are read at once, but for the last of the text.
 pub fn last_bytes(text: &[u8], word: Word) -> u32
     requires { (word.start + word.len ≤ length text.now) × (word.len < 4) }
-    ensures { result ≡ word_of (stretch text.now word.start word.len) }
+    ensures { result ≡ word_of (bytes_of text.now word) }
 {
     if text.len() - word.start < 4 {
         few_bytes(text, word)
@@ -84,19 +86,19 @@ pub fn sum_words(text: &[u8], word: Word) -> Sums
     sums
 }
 
-// The chain of a name (the 32-bit wrapping sum of its bytes, modulo 256) and its trail.
+/// The bucket of a name (the 32-bit wrapping sum of its bytes, modulo 256) and its key: its length, and in the
+/// upper half of the word the second hash.
 #[derive(Clone, Copy)]
 pub struct Hash {
     pub bucket: u8,
-    pub trail: usize,
-    ghost trail_fits: { trail < 4194304 },
+    pub key: usize,
 }
 
-// Both in one pass.
+/// Both in one pass over the bytes of a name.
 pub fn hash_of(text: &[u8], word: Word) -> Hash
-    requires { word.start + word.len ≤ length text.now }
-    ensures bucket_value { result.bucket ≡ bucket_of (stretch text.now word.start word.len) }
-    ensures trail_value { (result.trail ≡ trail_of (stretch text.now word.start word.len)) × (result.trail < 4194304) }
+    requires { (word.start + word.len ≤ length text.now) × (length text.now < HALF) }
+    ensures bucket_value { result.bucket ≡ bucket_of (bytes_of text.now word) }
+    ensures key_value { result.key ≡ key_of (bytes_of text.now word) }
 {
     let whole = word.len / 4 * 4;
     let last = Word {
@@ -106,6 +108,6 @@ pub fn hash_of(text: &[u8], word: Word) -> Hash
     let all = sum_words(text, word).with_word(last_bytes(text, last));
     Hash {
         bucket: (all.sum % 256) as u8,
-        trail: (all.mix / 1024) as usize,
+        key: word.len + (all.mix / 65536) as usize * HALF,
     }
 }

@@ -20,6 +20,7 @@ use Rattle.graphs.specs.Graph.{is_cell, cells_of}
 use Rattle.circuit.proofs.Codes.{node_wide, output_wide, length_nodes}
 use Rattle.reading.specs.Areas.{Leaves}
 use Rattle.schedule.specs.Call.{ordered_cells, graph_in, leaves, schedule_fault, schedule_call}
+use Rattle.listing.specs.declared.TheConstants.{LISTED}
 use Rattle.listing.specs.Lines.{Room}
 use Rattle.printing.specs.Inside.{ReadInside, Listable}
 
@@ -90,5 +91,5 @@ pub front_size : {A : Type 0} (n : ℕ) (l : List A) → n ≤ length l → n �
 front_size n l h = sym (length-take-le n l h)
 
 -- room for every line of a circuit of at most 1,024 nodes
-pub circuit-room : (text order : List ℕ) (n : ℕ) → length text ≤ 32769 → n ≤ 1024 → n ≤ length order → Room (length text) (length (take n order)) 33024
+pub circuit-room : (text order : List ℕ) (n : ℕ) → length text ≤ 32769 → n ≤ LISTED → n ≤ length order → Room (length text) (length (take n order)) 33024
 circuit-room text order n h k m = record { of_node = omega arith; of_order = omega (arith, length-take-le n order m) }

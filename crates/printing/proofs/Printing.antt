@@ -13,6 +13,7 @@ use Rattle.circuit.specs.declared.refusals.Refusal.{Refusal}
 use Rattle.circuit.specs.Refusals.{Try, number_of}
 use Rattle.circuit.specs.Records.{nodes_of, outputs_of}
 use Rattle.schedule.specs.Call.{Left, leaves, schedule_call}
+use Rattle.listing.specs.declared.TheConstants.{LISTED}
 use Rattle.listing.specs.Listing.{listing, refused_line, keys_from}
 use Rattle.listing.proofs.LineLaws.{listing_length}
 use Rattle.circuit.specs.declared.records.Sizes.{Sizes}
@@ -21,6 +22,7 @@ use Rattle.reading.specs.Reading.{Places}
 use Rattle.reading.specs.Areas.{read_text, Leaves}
 use Rattle.bristol.specs.Bristol.{bristol}
 use Rattle.bristol.specs.Promises.{Leaves as BristolLeaves}
+use Rattle.printing.specs.declared.rooms.TheConstants.{NAMES_AREA}
 use Rattle.printing.specs.Printed.{printed_bristol, printed_text, printed_read, printed_lines, printed_order, printed_circuit, listing_order}
 
 abbrev pub lines_of : List ℕ → List ℕ → List ℕ → List ℕ → List (List ℕ)
@@ -46,10 +48,10 @@ any_areas nodes outputs keys a b c x y z w p q r = rw (p, q, r)
 
 -- what the code answers and leaves is the listing's order
 pub ordered : (nodes outputs a b c x y z : List ℕ) (answer : Try ℕ) → leaves answer x y z ≡ schedule_call nodes outputs 2 (keys_from 0 (length nodes / 9)) a b c
-    → 3072 ≡ length a → 2049 ≡ length b → 1024 ≡ length c → leaves answer x y z ≡ listing_order nodes outputs
+    → 3072 ≡ length a → 2049 ≡ length b → LISTED ≡ length c → leaves answer x y z ≡ listing_order nodes outputs
 unfolding listing_order
 ordered nodes outputs a b c x y z answer e p q r =
-    e ∙ any_areas nodes outputs (keys_from 0 (length nodes / 9)) a b c (replicate 3072 0) (replicate 2049 0) (replicate 1024 0) 2 (sym p ∙ sym (length-replicate {A = ℕ} 3072 0)) (sym q ∙ sym (length-replicate {A = ℕ} 2049 0)) (sym r ∙ sym (length-replicate {A = ℕ} 1024 0))
+    e ∙ any_areas nodes outputs (keys_from 0 (length nodes / 9)) a b c (replicate 3072 0) (replicate 2049 0) (replicate LISTED 0) 2 (sym p ∙ sym (length-replicate {A = ℕ} 3072 0)) (sym q ∙ sym (length-replicate {A = ℕ} 2049 0)) (sym r ∙ sym (length-replicate {A = ℕ} LISTED 0))
 
 module _ (t nodes outputs : List ℕ) (answer : Try ℕ) (x y z : List ℕ) (e : leaves answer x y z ≡ listing_order nodes outputs) where
   pub printed_accepted : (n : ℕ) → answer ≡ Ok n → printed_lines t nodes outputs (take n z) ≡ printed_circuit t nodes outputs
@@ -59,12 +61,12 @@ module _ (t nodes outputs : List ℕ) (answer : Try ℕ) (x y z : List ℕ) (e :
   printed_refusal r a = sym (ap₂ (printed_order t nodes outputs) (sym (ap (λ (l : Left). l.answer) e) ∙ a) (sym (ap (λ (l : Left). l.order) e)))
 
 -- what a reader of joined texts left is printed as its text says
-pub text_printed : (lines : List ℕ → Places → Try Circuit) (t : List ℕ) (j n m o : ℕ) (r : Try Sizes) (joined nodes names outputs : List ℕ) → 32769 ≡ j → 9216 ≡ n → 4096 ≡ m → 5120 ≡ o
+pub text_printed : (lines : List ℕ → Places → Try Circuit) (t : List ℕ) (j n m o : ℕ) (r : Try Sizes) (joined nodes names outputs : List ℕ) → 32769 ≡ j → 9216 ≡ n → NAMES_AREA ≡ m → 5120 ≡ o
     → Leaves t (read_text lines t j n m o) j n m o r joined nodes names outputs → printed_read joined nodes outputs r ≡ printed_text lines t
 unfolding printed_text
 text_printed lines t j n m o r joined nodes names outputs a b c d l = rw (l.answer, l.joined_is, l.nodes_is, l.outputs_is, ← a, ← b, ← c, ← d)
 
-pub bristol_printed : (t : List ℕ) (n o w : ℕ) (r : Try Sizes) (nodes outputs wires : List ℕ) → 9216 ≡ n → 5120 ≡ o → 1024 ≡ w
+pub bristol_printed : (t : List ℕ) (n o w : ℕ) (r : Try Sizes) (nodes outputs wires : List ℕ) → 9216 ≡ n → 5120 ≡ o → LISTED ≡ w
     → BristolLeaves (bristol t n o w) r nodes outputs wires → printed_read [] nodes outputs r ≡ printed_bristol t
 unfolding printed_bristol
 bristol_printed t n o w r nodes outputs wires a b c l = rw (l.answer_is, l.nodes_are, l.outputs_are, ← a, ← b, ← c)

@@ -11,7 +11,9 @@ use Rattle.reading.specs.Reading.{Places}
 use Rattle.reading.specs.Areas.{read_text, joined_bytes}
 use Rattle.bristol.specs.Bristol.{Left, bristol}
 use Rattle.schedule.specs.Call.{Left as Ordered, schedule_call}
+use Rattle.listing.specs.declared.TheConstants.{LISTED}
 use Rattle.listing.specs.Listing.{listing, refused_line, keys_from}
+use Rattle.printing.specs.declared.rooms.TheConstants.{NAMES_AREA}
 
 -- every line of the circuit whose records stand in two areas, one after the other
 unfoldable pub printed_lines : List ℕ → List ℕ → List ℕ → List ℕ → List ℕ
@@ -24,7 +26,7 @@ printed_order t nodes outputs (Err e) order = refused_line (number_of e)
 
 -- "order for window 2, key (0, 0, node number)", with places for 1,024 nodes
 unfoldable pub listing_order : List ℕ → List ℕ → Ordered
-listing_order nodes outputs = schedule_call nodes outputs 2 (keys_from 0 (length nodes / 9)) (replicate 3072 0) (replicate 2049 0) (replicate 1024 0)
+listing_order nodes outputs = schedule_call nodes outputs 2 (keys_from 0 (length nodes / 9)) (replicate 3072 0) (replicate 2049 0) (replicate LISTED 0)
 
 abbrev pub printed_circuit : List ℕ → List ℕ → List ℕ → List ℕ
 printed_circuit t nodes outputs = printed_order t nodes outputs (listing_order nodes outputs).answer (listing_order nodes outputs).order
@@ -39,14 +41,14 @@ abbrev pub printed_left : List ℕ → Try Circuit → List ℕ
 printed_left t c = printed_read (filled (joined_bytes t c) 32769) (filled (node_words c) 9216) (filled (output_words c) 5120) (read_answer c)
 
 unfoldable pub printed_text : (List ℕ → Places → Try Circuit) → List ℕ → List ℕ
-printed_text lines t = printed_left t (read_text lines t 32769 9216 4096 5120)
+printed_text lines t = printed_left t (read_text lines t 32769 9216 NAMES_AREA 5120)
 
 -- the same of a Bristol text, with places for 1,024 nodes, outputs and wires
 abbrev pub printed_left_by : Left → List ℕ
 printed_left_by l = printed_read [] l.nodes l.outputs l.answer
 
 unfoldable pub printed_bristol : List ℕ → List ℕ
-printed_bristol t = printed_left_by (bristol t 9216 5120 1024)
+printed_bristol t = printed_left_by (bristol t 9216 5120 LISTED)
 
 -- "at most 32,768 bytes (more: `refused 1`)"
 abbrev pub printed_input : (List ℕ → List ℕ) → List ℕ → List ℕ

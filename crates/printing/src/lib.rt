@@ -15,6 +15,7 @@ use crate::rooms::room;
 use arrayvec::ArrayVec;
 use circuit::records::Sizes;
 use circuit::refusals::Refusal;
+use listing::LISTED;
 use listing::keys::fill_keys;
 use listing::line::Line;
 use listing::lines::{listing_line, put_refused};
@@ -87,7 +88,7 @@ pub fn print_circuit<W: Write>(
     let mut keys: [u32; 3072] = room();
     let mut ready: [usize; 3072] = room();
     let mut successors: [usize; 2049] = room();
-    let mut order: [usize; 1024] = room();
+    let mut order: [usize; LISTED] = room();
     match order_cells(
         nodes,
         outputs,

@@ -4,10 +4,11 @@ ghost use Rattle.std.specs.Io.KnownBytes.{Appends};
 ghost use Rattle.printing.specs.Printed.{printed_text, printed_bristol, Listed as IsListed};
 
 use crate::input::read_full;
-use crate::rooms::room;
+use crate::rooms::{NAMES_AREA, room};
 use crate::{print_read, print_refused};
 use bristol::reader::parse_bristol;
 use circuit::refusals::Refusal;
+use listing::LISTED;
 use reading::format::{Format, parse};
 use std::io;
 use std::io::{Read, Write};
@@ -31,7 +32,7 @@ impl<F: Format> Listed for Joined<F> {
     fn list<W: Write>(out: &mut W, text: &[u8]) -> io::Result<()> {
         let mut joined: [u8; 32769] = room();
         let mut nodes: [usize; 9216] = room();
-        let mut names: [usize; 4096] = room();
+        let mut names: [usize; NAMES_AREA] = room();
         let mut outputs: [usize; 5120] = room();
         let read = parse::<F>(text, &mut joined, &mut nodes, &mut names, &mut outputs);
         print_read(out, read, &joined, &nodes, &outputs)
@@ -47,7 +48,7 @@ impl Listed for Bristol {
     fn list<W: Write>(out: &mut W, text: &[u8]) -> io::Result<()> {
         let mut nodes: [usize; 9216] = room();
         let mut outputs: [usize; 5120] = room();
-        let mut wires: [usize; 1024] = room();
+        let mut wires: [usize; LISTED] = room();
         let read = parse_bristol(text, &mut nodes, &mut outputs, &mut wires);
         print_read(out, read, b"", &nodes, &outputs)
     }

@@ -23,6 +23,7 @@ use Rattle.circuit.proofs.Codes.{node_wide, output_wide, length_nodes}
 use Rattle.circuit.proofs.Checks.{no_fault, not_refused}
 use Rattle.text.specs.Bytes.{is_ascii}
 use Rattle.text.specs.Joining.{joined_text, Joins}
+use Rattle.names.specs.declared.records.TheConstants.{HALF}
 use Rattle.names.proofs.Orders.{empty_table}
 use Rattle.reading.specs.Reading.{Places, State, places_in, bytes_fault, text_fault, resolve, closed, finish}
 use Rattle.reading.specs.Holding.{nothing_read, AreasHold, circuit_of, Ends}
@@ -35,7 +36,7 @@ unfolding text_fault
 sound-fits text j e = leb-false j (length text) (not_refused (leb j (length text)) NoRoom (no_fault (bytes_fault text) (refuse_if (leb j (length text)) NoRoom) e).1)
 
 -- the joined text is short enough for a table of names
-pub joined_short : (text : List ℕ) (j size r : ℕ) (joined : List ℕ) → text_fault text j ≡ Ok tt → Joins text size r joined → r < 2097152
+pub joined_short : (text : List ℕ) (j size r : ℕ) (joined : List ℕ) → text_fault text j ≡ Ok tt → Joins text size r joined → r < HALF
 unfolding text_fault bytes_fault
 joined_short text j size r joined e k =
     let l = ltb-false 1048576 (length text) (not_refused (ltb 1048576 (length text)) TextTooLong (no_fault (refuse_if (ltb 1048576 (length text)) TextTooLong) (refuse_if (not (is_ascii text)) NotAscii) (no_fault (bytes_fault text) (refuse_if (leb j (length text)) NoRoom) e).0).0) in
@@ -56,7 +57,7 @@ zeros_less n = ap (λ (k : ℕ). replicate k 0) (sym (sub-zero n))
 zeros_all : (xs : List ℕ) → xs ≡ replicate (length xs) 0 → xs ≡ replicate (length xs - 0) 0
 zeros_all xs e = e ∙ zeros_less (length xs)
 
-pub nothing_stands : (t ns ms os : List ℕ) → length t < 2097152 → ns ≡ replicate (length ns) 0 → os ≡ replicate (length os) 0 → AreasHold t (replicate 256 0) ns ms os nothing_read
+pub nothing_stands : (t ns ms os : List ℕ) → length t < HALF → ns ≡ replicate (length ns) 0 → os ≡ replicate (length os) 0 → AreasHold t (replicate 256 0) ns ms os nothing_read
 nothing_stands t ns ms os l e f = record {
   named = record { table = empty_table t ms l; nodes = record { room = omega arith; clean = zeros_all ns e } };
   words = record { room = omega arith; clean = zeros_all os f; inside = tt };

@@ -6,6 +6,7 @@ use Rattle.circuit.specs.declared.records.Sizes.{Sizes}
 use Rattle.circuit.specs.Refusals.{Try, check_then}
 use Rattle.circuit.specs.Circuits.{Circuit, filled, read_answer, node_words, output_words}
 use Rattle.text.specs.Joining.{joined_text}
+use Rattle.names.specs.declared.records.TheConstants.{HALF}
 use Rattle.reading.specs.Reading.{Places, places_in, text_fault}
 use Rattle.reading.specs.Holding.{Ends}
 
@@ -47,7 +48,7 @@ pub record JoinedIn (text : List ℕ) (used : ℕ) (joined : List ℕ) : Type 0 
 -- a text that has no fault, with its areas ready to be read into
 pub record Readied (text : List ℕ) (j n o used : ℕ) (joined nodes outputs : List ℕ) : Type 0 where
   pub sound : text_fault text j ≡ Ok tt
-  pub short : used < 2097152
+  pub short : used < HALF
   pub joined_in : JoinedIn text used joined
   pub nodes_is : nodes ≡ replicate n 0
   pub outputs_is : outputs ≡ replicate o 0

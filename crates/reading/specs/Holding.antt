@@ -13,6 +13,7 @@ use Rattle.text.specs.declared.words.Word.{Word}
 use Rattle.names.specs.Names.{Entry}
 use Rattle.names.specs.Chains.{entries, Table}
 use Rattle.names.specs.declared.NameTable.{NameTable}
+use Rattle.names.specs.declared.records.TheConstants.{NAME_WORDS}
 use Rattle.reading.specs.declared.records.Counts.{Counts}
 use Rattle.reading.specs.declared.records.Reading.{Reading}
 use Rattle.reading.specs.Reading.{Places, Held, State, places_in, Out, resolve, closed}
@@ -107,7 +108,7 @@ state_of ns ms os r = record { held = held_of ns ms r.counts; outputs = words_of
 
 -- of names, where the area has room for so many
 abbrev pub NamesStep : (ℕ → List Entry → Try (List Entry)) → List ℕ → ℕ → List ℕ → Try ℕ → Type 0
-NamesStep f ms n ms' r = outcome (entries ms') r ≡ f (capacity 4 (length ms)) (entries ms n)
+NamesStep f ms n ms' r = outcome (entries ms') r ≡ f (capacity NAME_WORDS (length ms)) (entries ms n)
 
 -- of nodes
 abbrev pub NodesStep : (ℕ → List BoolNode → Try (List BoolNode)) → List ℕ → ℕ → List ℕ → Try ℕ → Type 0

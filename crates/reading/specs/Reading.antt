@@ -15,6 +15,7 @@ use Rattle.circuit.specs.Circuits.{Circuit}
 use Rattle.text.specs.Bytes.{is_ascii}
 use Rattle.text.specs.Words.{bytes_of}
 use Rattle.text.specs.declared.words.Word.{Word}
+use Rattle.names.specs.declared.records.TheConstants.{NAME_WORDS}
 use Rattle.names.specs.Names.{Entry, lookup}
 
 -- ---- the text
@@ -37,7 +38,7 @@ pub record Places : Type 0 where
 
 -- those of areas of so many words
 abbrev pub places_in : ℕ → ℕ → ℕ → Places
-places_in n m o = record { nodes = capacity 9 n; names = capacity 4 m; outputs = capacity 5 o }
+places_in n m o = record { nodes = capacity 9 n; names = capacity NAME_WORDS m; outputs = capacity 5 o }
 
 -- the nodes so far, and the names defined, the newest first
 pub record Held : Type 0 where

@@ -2,6 +2,7 @@
 ghost use Rattle.std.specs.Prelude.{◌≡◌, ℕ, ◌+◌, ◌≤◌, ◌<◌, Bool, List, length, replicate};
 ghost use Rattle.circuit.specs.Refusals.{Try, and_then};
 ghost use Rattle.circuit.specs.Circuits.{Circuit};
+ghost use Rattle.names.specs.declared.records.TheConstants.{HALF};
 ghost use Rattle.reading.specs.Reading.{Places, State, find, finish};
 ghost use Rattle.reading.specs.Holding.{places_of, entries_of, nothing_read, AreasHold, AreasHoldAfter, StateStep, Ends};
 ghost use Rattle.reading.specs.Areas.{read_text, LeavesAreas};
@@ -59,7 +60,7 @@ pub fn read_joined<F: Format>(
 ) -> Result<Sizes, Refusal>
     requires nodes_zero { nodes.old ≡ replicate (length nodes.old) 0 }
     requires outputs_zero { outputs.old ≡ replicate (length outputs.old) 0 }
-    requires text_short { length text.now < 2097152 }
+    requires text_short { length text.now < HALF }
     ensures { Ends (F.lines text.now (places_of nodes.old names.old outputs.old)) result nodes.new outputs.new }
 {
     let mut heads = [0; 256];

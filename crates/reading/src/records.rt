@@ -12,6 +12,7 @@ use circuit::areas::{put_node, records_in};
 use circuit::records::{BoolNode, Name};
 use circuit::refusals::Refusal;
 use names::NameTable;
+use names::records::NAME_WORDS;
 use text::words::Word;
 
 // How many nodes and names there are.
@@ -43,7 +44,7 @@ pub fn add_name(
     ensures table { Table text.now heads.new names.new (result_unwrap_or result count) }
     ensures step { NamesStep (λ room. add_name room word wire) names.old count names.new result }
 {
-    if records_in(names.len(), 4) <= count {
+    if records_in(names.len(), NAME_WORDS) <= count {
         return Err(Refusal::NoRoom);
     }
     names::define(text, word, wire, heads, names, count);

@@ -3,7 +3,7 @@ ghost use Rattle.std.specs.Prelude.{◌≡◌, ◌≤◌, length};
 
 use blif::read::parse_blif;
 use circuit::refusals::Refusal;
-use printing::rooms::room;
+use printing::rooms::{NAMES_AREA, room};
 use std::io;
 
 fn spaces() -> [u8; 1048577]
@@ -19,7 +19,7 @@ fn spaces_refused(size: usize) -> Option<Refusal>
     let text = spaces();
     let mut joined = spaces();
     let mut nodes: [usize; 9216] = room();
-    let mut names: [usize; 4096] = room();
+    let mut names: [usize; NAMES_AREA] = room();
     let mut outputs: [usize; 5120] = room();
     parse_blif(
         &text[..size],

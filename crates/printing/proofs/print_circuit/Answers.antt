@@ -1,4 +1,5 @@
 use Rattle.std.proofs.Common.{◌≤◌, arith}
+use Rattle.listing.specs.declared.TheConstants.{LISTED}
 use Rattle.printing.proofs.Bounds.{cells_within, front_size, circuit-room}
 use Rattle.printing.proofs.Printing.{ordered, printed_accepted, printed_refusal}
 use Rattle.printing.proofs.print_circuit.Goals as goal
@@ -12,7 +13,7 @@ slice_bounds-print_lines-end g c = front_size _ _ (omega (arith, cells_within _ 
 pub print_lines-requires : goal.print_lines-requires
 print_lines-requires g c =
     let n = c.in-Ok.n in
-    let h : n ≤ 1024 = omega (arith, cells_within _ _ _ _ _ _ _ _ _ _ _ _ c.order_cells.ensures c.in-Ok.is) in
+    let h : n ≤ LISTED = omega (arith, cells_within _ _ _ _ _ _ _ _ _ _ _ _ c.order_cells.ensures c.in-Ok.is) in
     rw c.new-line.ensures (circuit-room _ c.order_cells.new.order n c.requires.0 h (omega arith))
 
 pub returns-in-Ok : goal.returns-in-Ok

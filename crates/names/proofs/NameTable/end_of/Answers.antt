@@ -1,20 +1,23 @@
-use Rattle.std.proofs.Common.{arith}
+use Rattle.std.proofs.Common.{sym, refl, ◌∙◌}
 use Rattle.laws.specs.Stretches.{stretch}
-use Rattle.names.proofs.ChainLaws.{on_less, walk_start, walk_next}
+use Rattle.names.proofs.Searches.{less, next_at, follow_start, follow_next}
 use Rattle.names.proofs.NameTable.end_of.Goals as goal
 
-pub loop-walk-init : goal.loop-walk-init
-loop-walk-init c =
+pub loop-at-init : goal.loop-at-init
+loop-at-init c =
     let t = c.args.self.now in
-    let hash = c.hash_of-hash.ensures in
-    walk_start t.in_order (stretch t.text.now c.args.word.start c.args.word.len) hash.bucket_value (omega arith) hash.trail_value.0 hash.trail_value.1 c.start-walk.ensures.first_at c.start-walk.ensures.first_rest
+    follow_start t.in_order (stretch t.text.now c.args.word.start c.args.word.len) (c.from.ensures ∙ c.hash_of-hash.ensures.bucket_value) refl
 
-pub loop-walk-smaller : goal.loop-walk-smaller
-loop-walk-smaller c =
+pub loop-at-smaller : goal.loop-at-smaller
+loop-at-smaller c =
     let t = c.args.self.now in
-    on_less t.in_order (stretch t.text.now c.args.word.start c.args.word.len) c.loop-walk-test.true c.loop-walk.invariant.on c.step-walk.ensures.next_at
+    let w = stretch t.text.now c.args.word.start c.args.word.len in
+    less t.in_order w c.loop-at.depth c.loop-at-test.true c.loop-at.invariant.here (next_at t.in_order w c.loop-at.depth c.loop-at-test.true c.loop-at.invariant.here c.digit-chosen.ensures.0 c.link-at.ensures)
 
-pub loop-walk-preserved : goal.loop-walk-preserved
-loop-walk-preserved c =
+pub loop-at-preserved : goal.loop-at-preserved
+loop-at-preserved c =
     let t = c.args.self.now in
-    walk_next t.in_order (stretch t.text.now c.args.word.start c.args.word.len) c.loop-walk-test.true c.loop-walk.invariant c.step-walk.ensures.next_at c.step-walk.ensures.next_rest c.digit-digit.ensures.0
+    follow_next t.in_order (stretch t.text.now c.args.word.start c.args.word.len) c.loop-at.depth c.loop-at-test.true c.loop-at.invariant c.digit-chosen.ensures.0 c.link-at.ensures
+
+pub returns-clause-ends_at : goal.returns-clause-ends_at
+returns-clause-ends_at c = record { depth = c.loop-at.depth; ended = sym c.loop-at.invariant.here ∙ c.loop-at-test.false; behind = c.loop-at.invariant.behind }

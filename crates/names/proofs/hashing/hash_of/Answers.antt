@@ -1,13 +1,14 @@
-use Rattle.std.proofs.Common.{ℕ, ◌+◌, ◌-◌, ◌*◌, ◌/◌, ◌%◌, ◌<◌, List, length, ap, ◌∙◌, arith}
+use Rattle.std.proofs.Common.{ℕ, ◌+◌, ◌-◌, ◌*◌, ◌/◌, ◌%◌, ◌<◌, List, length, ◌≡◌, sym, ap, ap₂, ◌∙◌, arith}
 use Rattle.laws.specs.Stretches.{stretch}
 use Rattle.laws.proofs.Stretches.{length-stretch}
-use Rattle.names.specs.Chains.{bucket_of, trail_of, sum_in, mix_in}
+use Rattle.names.specs.Chains.{bucket_of, hash_of, key_of, sum_in, mix_in}
+use Rattle.names.specs.declared.records.TheConstants.{HALF}
 use Rattle.names.proofs.Words.{bytes_stretch}
 use Rattle.names.proofs.Hashes.{sum_short, mix_short}
 use Rattle.names.proofs.hashing.hash_of.Goals as goal
 
 pub returns : goal.returns
-unfolding bucket_of trail_of
+unfolding bucket_of hash_of key_of
 returns c =
     let at = c.args.word.start + c.args.word.len / 4 * 4 in
     let rest : List ℕ = stretch c.args.text.now at (c.args.word.len - c.args.word.len / 4 * 4) in
@@ -15,4 +16,5 @@ returns c =
     let sums = c.sum_words.result in
     let sum = c.with_word-all.ensures.sum_value ∙ ap (sum_in sums.sum) c.last_bytes.ensures ∙ sum_short sums.sum rest (omega arith) (bytes_stretch c.args.text.now _ _ (λ i. omega (arith, c.type_inv.text i))) few ∙ c.sum_words.ensures.len_value in
     let mix = c.with_word-all.ensures.mix_value ∙ ap (mix_in sums.mix) c.last_bytes.ensures ∙ mix_short sums.mix rest few ∙ c.sum_words.ensures.len_value_2 in
-    record { bucket_value = ap (λ (x : ℕ). x % 256) sum; trail_value = (ap (λ (x : ℕ). x / 1024) mix, omega arith) }
+    let len : c.args.word.len ≡ length (stretch c.args.text.now c.args.word.start c.args.word.len) = sym (length-stretch c.args.text.now c.args.word.start c.args.word.len c.requires.0) in
+    record { bucket_value = ap (λ (x : ℕ). x % 256) sum; key_value = ap₂ ◌+◌ len (ap (λ (x : ℕ). x / 65536 * HALF) mix) }
