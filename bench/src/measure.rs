@@ -1,15 +1,15 @@
 //! Times this library and the reference on the same inputs, in turn. Prints `time PART SUBJECT SIZE KIND OURS THEIRS` in nanoseconds.
 //! Usage: measure [read] [schedule] [runs]; all without a word.
 mod circuits;
+mod plain;
 mod reading;
-mod reference {
-    include!(concat!(env!("REFERENCE"), "/src/circuit.rs"));
-}
 mod running;
 mod scheduling;
 mod texts;
 mod timing;
-mod unchecked;
+mod reference {
+    include!(concat!(env!("REFERENCE"), "/src/circuit.rs"));
+}
 
 fn main() {
     let words: Vec<String> = std::env::args().skip(1).collect();

@@ -1,15 +1,15 @@
 //! Bytes that are lent to this library, and the most that the reference (and the Rust crate) holds during the same call.
 //! Prints `memory PART SUBJECT SIZE KIND OURS THEIRS`. The texts, circuits and assignments that are read count on neither side.
 mod circuits;
+mod plain;
 mod reading;
-mod reference {
-    include!(concat!(env!("REFERENCE"), "/src/circuit.rs"));
-}
 mod running;
 mod scheduling;
 mod texts;
 mod timing;
-mod unchecked;
+mod reference {
+    include!(concat!(env!("REFERENCE"), "/src/circuit.rs"));
+}
 
 use circuits::{Shape, circuit};
 use reading::KINDS;

@@ -9,7 +9,7 @@ use std::collections::{BTreeMap, BTreeSet};
 use std::fmt::Write;
 
 /// The parts of the table "Evaluate and run".
-const RUNS: [&str; 6] = ["evaluate", "crate-evaluate", "crate-evaluator", "run", "unchecked-run", "run-refused"];
+const RUNS: [&str; 6] = ["evaluate", "crate-evaluate", "crate-evaluator", "run", "run-plain", "run-refused"];
 
 fn number(n: Option<f64>) -> String {
     n.map_or("-".to_owned(), shown)
@@ -154,8 +154,8 @@ left. They are not cleared between calls: what a call clears is in its time. `ro
 - The reference takes a `&str` and allocates; dropping its result is not in its time. Its map of inputs for `evaluate` is made beforehand.\n\
 - `run` has no counterpart in the reference and stands beside its `evaluate`, which takes the storage order and checks nothing; the list is that of a \
 window (window 1 gives the storage order). `checked`: the reference's `validate_topological` is called before its `evaluate`, as who wants a circuit \
-checked has to; this library's `evaluate` and run check it in any case. `unchecked-run` is a plain loop in Rust over the same records and list without \
-any check or test of an index; above 65,536 nodes it looks at records ahead as the run does. `sweep` goes over all numbered assignments (the size is the number of cells).\n\
+checked has to; this library's `evaluate` and run check it in any case. `run-plain` is the run over the time of a plain loop in Rust (bench/src/plain.rs) that makes the \
+same checks and the same steps over the same records and list, each index tested as Rust does. `sweep` goes over all numbered assignments (the size is the number of cells).\n\
 - `mixed` is `layered` with a quarter of the cells, chosen at random, cut to their first wire (NOT or BUFF), and with a constant for the second wire \
 of one in a hundred of the others; `late` is `layered` with one wire in its last cell alone. `run-refused` is a run that this library refuses, beside the reference's `evaluate` of the sound circuit: in \
 `window-64-twice` the list ends with its first cell again, in `broken-last` the last record has a table that no cell can have.\n\

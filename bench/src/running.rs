@@ -1,8 +1,8 @@
 //! `evaluate`, the run, refused ones too (beside the reference's `evaluate`: it has no run), and the sweep over all numbered assignments.
 use crate::circuits::{self, Both, Shape, circuit, of_crate, swept};
+use crate::plain::Plain;
 use crate::scheduling;
 use crate::timing::{both, print};
-use crate::unchecked::Unchecked;
 use relay::{Refusal, archive};
 use std::collections::HashMap;
 use std::time::Duration;
@@ -75,6 +75,16 @@ impl Subject {
         print(part, self.word, self.size, kind, both(BUDGET, Some(ours), Some(|| self.reference())));
     }
 
+    /// The run along a list beside the plain loop in Rust that does the same.
+    fn plain_row(&self, areas: &mut Areas, order: &[usize], kind: &str) {
+        let mut plain = Plain::new(self.made.nodes.len() / 9);
+        let mut answers = vec![7; self.expected.len()];
+        assert!(plain.run(&self.made.nodes, &self.made.outputs, order, &self.bits, &mut answers).is_some(), "refused");
+        assert_eq!(answers, self.expected, "outputs differ");
+        let theirs = || plain.run(&self.made.nodes, &self.made.outputs, order, &self.bits, &mut answers).expect("outputs");
+        print("run-plain", self.word, self.size, kind, both(BUDGET, Some(|| areas.run(&self.made, order, &self.bits)), Some(theirs)));
+    }
+
     /// A call beside the reference's check of the circuit and its `evaluate`.
     fn checked_row<T>(&self, part: &str, kind: &str, ours: impl FnMut() -> T) {
         let theirs = || self.made.circuit.validate_topological().map(|()| self.reference()).expect("a circuit");
@@ -108,21 +118,18 @@ fn by_crate(subject: &Subject) {
     subject.row("crate-evaluator", "known", || evaluator.evaluate(&known).expect("outputs").len());
 }
 
-/// Runs along the list of each window; the list of window 64 also with unknowns and beside the reference's check.
+/// Runs along the list of each window, beside the plain loop and the reference's check too; the list of window 64 also with unknowns.
 fn runs(subject: &Subject, areas: &mut Areas, scheduled: &mut scheduling::Areas) {
     let (made, bits) = (&subject.made, &subject.bits);
-    let mut unchecked = Unchecked::new(made);
     for (window, kind) in [(1, "window-1"), (64, "window-64"), (usize::MAX, "window-all")] {
         let cells = scheduled.schedule(made, window);
         let order = &scheduled.order[..cells];
         subject.run(areas, order, kind);
-        // the first output is the last node
-        assert_eq!(unchecked.run(made, order, bits), subject.expected[0], "outputs differ");
-        subject.row("unchecked-run", kind, || unchecked.run(made, order, bits));
+        subject.plain_row(areas, order, kind);
+        subject.checked_row("run", &format!("{kind}-checked"), || areas.run(made, order, bits));
         if window == 64 {
             let half: Vec<u8> = bits.iter().enumerate().map(|(p, bit)| if p % 2 == 0 { 2 } else { *bit }).collect();
             subject.row("run", "window-64-half-unknown", || areas.run(made, order, &half));
-            subject.checked_row("run", "window-64-checked", || areas.run(made, order, bits));
         }
     }
 }
@@ -159,6 +166,7 @@ fn mixed(size: usize) {
     let cells = scheduled.schedule(&subject.made, 64);
     let order = &scheduled.order[..cells];
     subject.run(&mut areas, order, "window-64");
+    subject.plain_row(&mut areas, order, "window-64");
     subject.checked_row("run", "window-64-checked", || areas.run(&subject.made, order, &subject.bits));
 }
 
