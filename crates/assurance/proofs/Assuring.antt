@@ -93,7 +93,7 @@ module _ (c : Circuit) (window : ℕ) (keys assignment old : List ℕ) (ready su
   accepted = promise.validated (topological c checks)
 
   ordered : InOrder (graph_of c.nodes) (order_of c window keys)
-  ordered = rw (graph-in, order-in) at promise.ordering.in_order
+  ordered = rw (graph-in, order-in) at promise.order_promised.in_order
 
   listed : ListsAll (graph_of c.nodes) (order_of c window keys)
   listed = rw (graph-in, order-in) at (promise.every accepted)

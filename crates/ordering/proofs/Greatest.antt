@@ -16,7 +16,7 @@ use Rattle.laws.proofs.Tests.{clash}
 use Rattle.laws.proofs.Lists.{elem-cons-split, elem_here, elem-later}
 use Rattle.graphs.specs.Graph.{Vertex, ready, ready_cells}
 use Rattle.ordering.specs.Schedule.{Key, above, best, pick, next}
-use Rattle.ordering.specs.Promises.{Best}
+use Rattle.ordering.specs.Promises.{Greatest}
 use Rattle.ordering.proofs.Order.{best_in}
 
 -- one number of a key against another's, and what decides where they are equal
@@ -224,13 +224,13 @@ ascending_take zero l r = tt
 ascending_take (suc w) [] r = tt
 ascending_take (suc w) (x ∷ l) r = rising_take x w l r
 
-pub pick-best : (key : ℕ → Key) (l : List ℕ) (p : ℕ) → Ascending l → pick key l ≡ some p → Best key l p
+pub pick-best : (key : ℕ → Key) (l : List ℕ) (p : ℕ) → Ascending l → pick key l ≡ some p → Greatest key l p
 unfolding pick
 pick-best key [] p r e = let z : ◌≡◌ {A = ℕ} 0 1 = cc in absurd (omega arith)
 pick-best key (x ∷ l) p r e =
     let q : best key x l ≡ p = cc in
     rw (← q) (record { among = best_in key x l; greatest = best_greatest key x l; smallest = best-first key x l r })
 
-pub next-best : (c : List Vertex) (window : ℕ) (key : ℕ → Key) (taken : List ℕ) (p : ℕ) → next c window key taken ≡ some p → Best key (take window (ready_cells c taken)) p
+pub next-best : (c : List Vertex) (window : ℕ) (key : ℕ → Key) (taken : List ℕ) (p : ℕ) → next c window key taken ≡ some p → Greatest key (take window (ready_cells c taken)) p
 unfolding next ready_cells
 next-best c window key taken p e = pick-best key (take window (ready_cells c taken)) p (ascending_take window (ready_cells c taken) (ascending_numbers (ready c taken) 0 (length c))) e

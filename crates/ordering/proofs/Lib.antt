@@ -21,3 +21,4 @@ pub mod Keeping
 pub mod Root
 pub mod Windows
 pub mod MemberSteps
+pub mod EveryOrder

@@ -13,7 +13,7 @@ use Rattle.laws.specs.Lists.{elem, numbers}
 use Rattle.laws.proofs.Lists.{numbers_in, in_numbers, elem_here}
 use Rattle.readyset.specs.Sets.{member}
 use Rattle.ordering.specs.Schedule.{Key, key_at, best, pick}
-use Rattle.ordering.specs.Promises.{Best}
+use Rattle.ordering.specs.Promises.{Greatest}
 use Rattle.ordering.specs.Tree.{Before, Leads, Winner, tree_at, Ranked}
 use Rattle.ordering.proofs.Greatest.{Ascending, ascending_numbers, pick-best}
 use Rattle.ordering.proofs.Winners.{before_same}
@@ -22,7 +22,7 @@ use Rattle.ordering.proofs.Climb.{root_leads, root_leaf}
 -- the entry of a list is its pick
 
 module _ (key : ℕ → Key) (l : List ℕ) (up : Ascending l) (e : ℕ) (win : Winner key (λ k. elem k l ≡ true) e) where
-  winner_best : (y x : ℕ) → Best key l y → e ≡ suc x → y ≡ x
+  winner_best : (y x : ℕ) → Greatest key l y → e ≡ suc x → y ≡ x
   winner_best y x b q = before_same key y x (record { greatest = b.greatest x here; smallest = b.smallest x here }) led
     where
       here : elem x l ≡ true

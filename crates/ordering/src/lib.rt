@@ -7,6 +7,7 @@ pub mod keys;
 pub mod linking;
 pub mod members;
 pub mod picking;
+pub mod promised;
 pub mod releasing;
 pub mod taking;
 pub mod tree;

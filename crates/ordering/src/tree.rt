@@ -1,6 +1,13 @@
-// The tree of the best ready cells, in the ready area after the set of ready nodes: its first entry is the best of all.
-// An entry is a word of that lent area: 0 for no node, or the node's number and 1.
-// `area`, `keys` and `count` go together, and stand in no struct: waiting.rt says why of the area, keys.rt of keys and count.
+// The tree of the best ready cells, in the ready area behind the set of ready nodes.
+//
+//     1                      better of 2 and 3: the best of all
+//     2          3           better of 4 and 5, and of 6 and 7
+//     4    5     6    7      leaf w, at entry leaves + w: the best ready cell of word w of the set
+//     |    |     |    |
+//     0..  64..  128.. 192..  the 64 nodes of that word; only ready ones below the window's limit count
+//
+// Entry 0 is not used, and entry v stands above the entries 2 v and 2 v + 1. An entry is one word of the lent area: 0 for no node, or the node's number and 1.
+// When a node gets ready or is taken, its leaf is written anew and then the entries above it, as far as they change: at most as many as the tree is high.
 ghost use Rattle.std.specs.Prelude.{◌≡◌, not, cond, ◌+◌, ◌*◌, ◌/◌, ◌^◌, ◌<◌, ◌≤◌, eqb, length, get_or, set};
 ghost use Rattle.ordering.specs.Schedule.{key_at, above};
 ghost use Rattle.ordering.specs.Tree.{ahead, Winner, InWord, better_of, Joined, LeavesKept, tree_at, Rankable, LeafPut, LeavesPut, Ranked, Fronted};

@@ -23,13 +23,9 @@ use Rattle.circuit.proofs.Circuits.{checked_forward}
 use Rattle.graphs.proofs.Graph.{forward_no_circle}
 use Rattle.ordering.specs.Schedule.{key_at}
 use Rattle.schedule.specs.Call.{graph_in, order_in, room, call_fault, circle_fault, schedule_fault, leaves, schedule_call}
-use Rattle.ordering.specs.Promises.{leaves_out}
-use Rattle.ordering.specs.Promises.{Ordering}
+use Rattle.ordering.specs.Promises.{leaves_out, OrderPromised}
 use Rattle.schedule.specs.Promises.{Promised, stored_cells}
-use Rattle.ordering.proofs.Order.{schedule_in_order, no_circle_count}
-use Rattle.ordering.proofs.WindowOne.{window_one}
-use Rattle.ordering.proofs.Greatest.{next-best}
-use Rattle.ordering.proofs.Complete.{out_circle, circle_out, none_out}
+use Rattle.ordering.proofs.EveryOrder.{every_order}
 use Rattle.schedule.proofs.Call.{orderable}
 
 -- what `validate_topological` accepts has no 15
@@ -56,18 +52,14 @@ module _ (nodes outputs : List ℕ) (valid : topological_fault nodes outputs ≡
   unfolding graph_in
   validated_forward = checked_forward (nodes_in nodes) (wires_in outputs) parts.1
 
--- over any graph
-
-ordered : (nodes : List ℕ) (n window : ℕ) (keys : List ℕ) → Ordering (graph_in nodes n) window (key_at keys) (order_in nodes n window keys)
-unfolding order_in
-ordered nodes n window keys =
-    record { in_order = schedule_in_order (graph_in nodes n) window (key_at keys); picks = next-best (graph_in nodes n) window (key_at keys) }
-
 -- of the call
 
 module _ (nodes outputs : List ℕ) (window : ℕ) (keys : List ℕ) (ready successors order : ℕ) (passed : call_fault nodes outputs window keys ready successors order ≡ Ok tt) where
   at_least_one : 1 ≤ window
   at_least_one = (orderable nodes outputs window keys ready successors order passed).window_is
+
+  of_graph : OrderPromised (graph_in nodes (length nodes / NODE_WORDS)) window (key_at keys)
+  of_graph = every_order (graph_in nodes (length nodes / NODE_WORDS)) window (key_at keys) at_least_one
 
   last : schedule_fault nodes outputs window keys ready successors order ≡ circle_fault nodes (length nodes / NODE_WORDS) window keys
   unfolding schedule_fault
@@ -75,7 +67,7 @@ module _ (nodes outputs : List ℕ) (window : ℕ) (keys : List ℕ) (ready succ
 
   circle_refuses : Circle (graph_in nodes (length nodes / NODE_WORDS)) → schedule_fault nodes outputs window keys ready successors order ≡ Err InCircle
   unfolding circle_fault order_in
-  circle_refuses o = last ∙ ap (λ (t : Bool). refuse_if t InCircle) (circle_out (graph_in nodes (length nodes / NODE_WORDS)) window (key_at keys) o)
+  circle_refuses o = last ∙ ap (λ (t : Bool). refuse_if t InCircle) (of_graph.circle_left_out o)
 
   not_out : schedule_fault nodes outputs window keys ready successors order ≡ Ok tt → leaves_out (order_in nodes (length nodes / NODE_WORDS) window keys) (cells_of (graph_in nodes (length nodes / NODE_WORDS))) ≡ false
   unfolding circle_fault
@@ -86,7 +78,7 @@ module _ (nodes outputs : List ℕ) (window : ℕ) (keys : List ℕ) (ready succ
   refuses_circle e = go (leaves_out (order_in nodes (length nodes / NODE_WORDS) window keys) (cells_of (graph_in nodes (length nodes / NODE_WORDS)))) refl
     where
       go : (t : Bool) → leaves_out (order_in nodes (length nodes / NODE_WORDS) window keys) (cells_of (graph_in nodes (length nodes / NODE_WORDS))) ≡ t → Circle (graph_in nodes (length nodes / NODE_WORDS))
-      go true q = out_circle (graph_in nodes (length nodes / NODE_WORDS)) window (key_at keys) at_least_one q
+      go true q = of_graph.left_out_circle q
       go false q =
           let s : (Ok tt) ≡ Err InCircle = sym (last ∙ ap (λ (t : Bool). refuse_if t InCircle) q) ∙ e in
           let z : ◌≡◌ {A = ℕ} 0 1 = cc in
@@ -95,7 +87,7 @@ module _ (nodes outputs : List ℕ) (window : ℕ) (keys : List ℕ) (ready succ
   accepts : (Circle (graph_in nodes (length nodes / NODE_WORDS)) → ⊥) → schedule_fault nodes outputs window keys ready successors order ≡ Ok tt
   unfolding circle_fault order_in
   accepts no-circle =
-      last ∙ ap (λ (t : Bool). refuse_if t InCircle) (false_from_ne_true _ (λ q. no-circle (out_circle (graph_in nodes (length nodes / NODE_WORDS)) window (key_at keys) at_least_one q)))
+      last ∙ ap (λ (t : Bool). refuse_if t InCircle) (false_from_ne_true _ (λ q. no-circle (of_graph.left_out_circle q)))
 
   no_circle_in : schedule_fault nodes outputs window keys ready successors order ≡ Ok tt → Circle (graph_in nodes (length nodes / NODE_WORDS)) → ⊥
   no_circle_in e o =
@@ -105,20 +97,20 @@ module _ (nodes outputs : List ℕ) (window : ℕ) (keys : List ℕ) (ready succ
 
   lists_every : schedule_fault nodes outputs window keys ready successors order ≡ Ok tt → ListsAll (graph_in nodes (length nodes / NODE_WORDS)) (order_in nodes (length nodes / NODE_WORDS) window keys)
   unfolding order_in
-  lists_every e = none_out (graph_in nodes (length nodes / NODE_WORDS)) window (key_at keys) (not_out e)
+  lists_every e = of_graph.lists_all (not_out e)
 
   numbers_every : schedule_fault nodes outputs window keys ready successors order ≡ Ok tt → length (order_in nodes (length nodes / NODE_WORDS) window keys) ≡ length (cells_of (graph_in nodes (length nodes / NODE_WORDS)))
   unfolding order_in
-  numbers_every e = no_circle_count (graph_in nodes (length nodes / NODE_WORDS)) window (key_at keys) at_least_one (no_circle_in e)
+  numbers_every e = of_graph.count (no_circle_in e)
 
   stored : topological_fault nodes outputs ≡ Ok tt → window ≡ 1 → order_in nodes (length nodes / NODE_WORDS) window keys ≡ cells_of (graph_in nodes (length nodes / NODE_WORDS))
   unfolding order_in
-  stored valid one = rw one (window_one (graph_in nodes (length nodes / NODE_WORDS)) (key_at keys) (validated_forward nodes outputs valid))
+  stored valid one = of_graph.storage (validated_forward nodes outputs valid) one
 
   pub promised : Promised nodes outputs window keys ready successors order
   promised =
       record {
-        ordering = ordered nodes (length nodes / NODE_WORDS) window keys;
+        order_promised = of_graph;
         circle_refused = circle_refuses;
         refused_circle = refuses_circle;
         accepted = accepts;

@@ -1,4 +1,4 @@
--- What is promised of the order, in the graph's terms, of every circuit for which 15, 18, 19 and 3 do not refuse.
+-- What is promised of the order, in the graph's terms, of every call that is not refused before the cells are ordered.
 -- Assumes nothing.
 use Rattle.circuit.specs.declared.records.TheConstants.{NODE_WORDS}
 use Rattle.std.specs.Prelude.{◌-◌, ◌*◌, ◌++◌, true, replicate, ℕ, ◌/◌, ◌≡◌, List, length, Err, Ok}
@@ -6,12 +6,13 @@ use Rattle.circuit.specs.declared.refusals.Refusal.TheVariants.{Circle as InCirc
 use Rattle.circuit.specs.Check.{topological_fault}
 use Rattle.graphs.specs.Graph.{cells_of, Circle, ListsAll}
 use Rattle.ordering.specs.Schedule.{key_at}
-use Rattle.ordering.specs.Promises.{Ordering}
+use Rattle.ordering.specs.Promises.{OrderPromised}
 use Rattle.schedule.specs.Call.{graph_in, order_in, room, call_fault, schedule_fault, leaves, schedule_call}
 
--- "17 exactly if some cells read in a circle (one reading itself counts); a forward read alone is accepted"
+-- Of the call's order and of its refusal of a circle; a cell that reads itself is a circle, a forward read alone is none.
 pub record Promised (nodes outputs : List ℕ) (window : ℕ) (keys : List ℕ) (ready successors order : ℕ) : Type 0 where
-  pub ordering : Ordering (graph_in nodes (length nodes / NODE_WORDS)) window (key_at keys) (order_in nodes (length nodes / NODE_WORDS) window keys)
+  -- the order is that of the netlist's graph, with all that is promised of any graph's
+  pub order_promised : OrderPromised (graph_in nodes (length nodes / NODE_WORDS)) window (key_at keys)
   pub circle_refused : Circle (graph_in nodes (length nodes / NODE_WORDS)) → schedule_fault nodes outputs window keys ready successors order ≡ Err InCircle
   pub refused_circle : schedule_fault nodes outputs window keys ready successors order ≡ Err InCircle → Circle (graph_in nodes (length nodes / NODE_WORDS))
   pub accepted : (Circle (graph_in nodes (length nodes / NODE_WORDS)) → ⊥) → schedule_fault nodes outputs window keys ready successors order ≡ Ok tt
@@ -22,7 +23,7 @@ pub record Promised (nodes outputs : List ℕ) (window : ℕ) (keys : List ℕ) 
   pub validated : topological_fault nodes outputs ≡ Ok tt → schedule_fault nodes outputs window keys ready successors order ≡ Ok tt
   pub storage : topological_fault nodes outputs ≡ Ok tt → window ≡ 1 → order_in nodes (length nodes / NODE_WORDS) window keys ≡ cells_of (graph_in nodes (length nodes / NODE_WORDS))
 
--- the same of every call that 15, 18, 19 and 3 do not refuse
+-- the same of every such call
 abbrev pub SchedulePromised : Type 0
 SchedulePromised =
     (nodes outputs : List ℕ) (window : ℕ) (keys : List ℕ) (ready successors order : ℕ)
@@ -32,7 +33,7 @@ SchedulePromised =
 abbrev pub stored_cells : List ℕ → List ℕ
 stored_cells nodes = cells_of (graph_in nodes (length nodes / NODE_WORDS))
 
--- "for every circuit that the circuit check accepts, with one key per node and areas long enough, window 1 gives the cells in storage order for all keys"
+-- Of a circuit that the circuit check accepts, with a key for each node and room in every area, window 1 gives the cells in storage order, for all keys.
 abbrev pub StoredAtWindowOne : Type 0
 StoredAtWindowOne =
     (nodes outputs keys ready successors order : List ℕ) → topological_fault nodes outputs ≡ Ok tt → length keys ≡ 3 * (length nodes / NODE_WORDS)
