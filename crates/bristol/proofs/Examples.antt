@@ -26,7 +26,7 @@ use Rattle.bristol_rows.specs.Numbers.{number, each_number}
 use Rattle.bristol_rows.specs.Header.{grouped_wire_count, groups, group_lines, two_numbers, header}
 use Rattle.bristol_rows.specs.Operation.{is_alias, inverts, two_input_table, truth_table, operation}
 use Rattle.bristol_rows.specs.Row.{drivers, row_output, row_wires, row}
-use Rattle.bristol.specs.Bristol.{input_node, drive, store_cell, store, row_step, rows, outputs_from, start, body, circuit, bristol_circuit, bristol}
+use Rattle.bristol.specs.Bristol.{wire_input, drive, store_cell, store, row_step, rows, outputs_from, start, body, circuit, bristol_circuit, bristol}
 
 -- a quoted text as bytes
 unfoldable pub bytes : String → List ℕ
@@ -178,7 +178,7 @@ abbrev adder : String
 adder = "5 8\n3 1 1 1\n1 2\n\n2 1 0 1 3 XOR\n2 1 3 2 6 xor\n2 1 0 1 4 AND # carry\n2 1 3 2 5 And\n2 1 4 5 7 OR\n"
 
 pub adder_is : bristol_circuit (bytes adder) 90 10 8 ≡ Ok (record {
-  nodes = input_node 0 ∷ input_node 1 ∷ input_node 2 ∷ gate 3 6 (n 0) (n 1) ∷ gate 6 6 (n 3) (n 2) ∷ gate 4 8 (n 0) (n 1) ∷ gate 5 8 (n 3) (n 2) ∷ gate 7 14 (n 5) (n 6) ∷ [];
+  nodes = wire_input 0 ∷ wire_input 1 ∷ wire_input 2 ∷ gate 3 6 (n 0) (n 1) ∷ gate 6 6 (n 3) (n 2) ∷ gate 4 8 (n 0) (n 1) ∷ gate 5 8 (n 3) (n 2) ∷ gate 7 14 (n 5) (n 6) ∷ [];
   outputs = output 6 (n 4) ∷ output 7 (n 7) ∷ [];
 })
 unfolding bytes bristol_circuit circuit body start outputs_from rows row_step store store_cell drive row row_wires row_output drivers operation truth_table two_input_table inverts is_alias header two_numbers group_lines groups grouped_wire_count each_number number parse_each parse_usize digits digits_from value_from all_digits kept_lines kept_of kept uncommented raw_lines split_whitespace words upper is_ascii trim trim_end trim_start is_blank sum stretch same_bytes capacity

@@ -14,7 +14,7 @@ use Rattle.circuit.specs.Circuits.{Circuit}
 use Rattle.bristol_rows.specs.declared.answers.Head.{Head}
 use Rattle.bristol_rows.specs.Promises.{HeaderAt}
 use Rattle.bristol.specs.declared.answers.Rows.{Rows}
-use Rattle.bristol.specs.Bristol.{State, rows, outputs_from, input_node, input_slot, start, body, circuit, leave}
+use Rattle.bristol.specs.Bristol.{State, rows, outputs_from, wire_input, input_slot, start, body, circuit, leave}
 use Rattle.bristol.specs.Promises.{Holds, RowsStand, RowsAre, OutputsStand, Built, Leaves}
 
 -- ---- areas that are zero
@@ -28,7 +28,7 @@ zeros_hold enc w a e =
 -- ---- the rows, from the inputs on
 
 pub start_is : (h : Head) (wires : List ℕ) → wires ≡ replicate h.wires 0
-    → ◌≡◌ {A = State} (record { nodes = up_from input_node 0 h.inputs; wires = up_from input_slot 0 h.inputs ++ drop h.inputs wires }) (start h)
+    → ◌≡◌ {A = State} (record { nodes = up_from wire_input 0 h.inputs; wires = up_from input_slot 0 h.inputs ++ drop h.inputs wires }) (start h)
 unfolding start
 start_is h wires e = rw (e, drop-replicate {X = ℕ} h.inputs h.wires 0)
 

@@ -34,10 +34,11 @@ use Rattle.text.specs.Lines.{kept_lines}
 use Rattle.bristol_rows.specs.declared.answers.Head.{Head}
 use Rattle.bristol_rows.specs.Header.{header}
 use Rattle.bristol_rows.specs.Operation.{is_alias, inverts, two_input_table, truth_table, Op, same, table, operation}
-use Rattle.bristol_rows.specs.Row.{wire_number, drivers, cell_node, Gate, alias, cell, gate, row}
+use Rattle.bristol_rows.specs.Slots.{wire_number, node_number}
+use Rattle.bristol_rows.specs.Row.{drivers, cell_node, Gate, alias, cell, gate, row}
 use Rattle.bristol_rows.proofs.Accepted.{Accepts, accepted}
 use Rattle.bristol_rows.proofs.InputLaws.{front, drivers-nil, drivers-length}
-use Rattle.bristol.specs.Bristol.{State, node_number, drive, store_cell, store, row_step, rows, output_of, outputs_from, input_node, input_slot, start, body, circuit, bristol_circuit}
+use Rattle.bristol.specs.Bristol.{State, drive, store_cell, store, row_step, rows, output_of, outputs_from, wire_input, input_slot, start, body, circuit, bristol_circuit}
 
 -- ---- the operation: one or two inputs, and a table with no bits above its entries
 
@@ -198,16 +199,16 @@ rows-sound room (l ∷ ls) s s' k h =
 
 -- ---- the start
 
-inputs_sit : (i m : ℕ) → AllSit i (up_from input_node i m)
+inputs_sit : (i m : ℕ) → AllSit i (up_from wire_input i m)
 inputs_sit i zero = tt
-inputs_sit i (suc m) = (input_sits i (input_node i) refl, inputs_sit (suc i) m)
+inputs_sit i (suc m) = (input_sits i (wire_input i) refl, inputs_sit (suc i) m)
 
 start-sound : (h : Head) → StateSound (start h)
 unfolding start
 start-sound h = record { sits = inputs_sit 0 h.inputs; wired = λ i. go i (ltb i h.inputs) refl }
   where
-    go : (i : ℕ) (t : Bool) → ltb i h.inputs ≡ t → get_or (up_from input_slot 0 h.inputs ++ replicate (h.wires - h.inputs) 0) i 0 < length (up_from input_node 0 h.inputs) + 3
-    go i true e = omega (arith, ltb-true i h.inputs e, front_at input_slot h.inputs i (replicate (h.wires - h.inputs) 0) (ltb-true i h.inputs e), length_up input_node 0 h.inputs)
+    go : (i : ℕ) (t : Bool) → ltb i h.inputs ≡ t → get_or (up_from input_slot 0 h.inputs ++ replicate (h.wires - h.inputs) 0) i 0 < length (up_from wire_input 0 h.inputs) + 3
+    go i true e = omega (arith, ltb-true i h.inputs e, front_at input_slot h.inputs i (replicate (h.wires - h.inputs) 0) (ltb-true i h.inputs e), length_up wire_input 0 h.inputs)
     go i false e =
         omega (arith, past_front (up_from input_slot 0 h.inputs) (h.wires - h.inputs) i (omega (arith, length_up input_slot 0 h.inputs, ltb-false i h.inputs e)))
 

@@ -27,7 +27,7 @@ use Rattle.circuit.proofs.Codes.{node_wide, output_wide}
 use Rattle.text.specs.declared.lines.KeptLines.{KeptLines}
 use Rattle.text.specs.Lines.{add_first, raw_lines, kept, kept_of}
 use Rattle.text.specs.Iterators.{kept_left}
-use Rattle.bristol_rows.specs.Row.{wire_number}
+use Rattle.bristol_rows.specs.Slots.{wire_number}
 use Rattle.circuit.specs.declared.records.NodeNumber.{NodeNumber}
 use Rattle.bristol.specs.Bristol.{drive, store_cell, row_step, rows, output_of, outputs_from}
 use Rattle.bristol.specs.Promises.{HoldsNodes, HoldsOutputs, Stands, StepIs, RowsStand, OutputsStand}

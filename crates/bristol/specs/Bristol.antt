@@ -1,9 +1,8 @@
 -- The reader of Bristol texts: what it answers and leaves in each area, from the text and the areas' lengths.
 -- Assumes nothing.
-use Rattle.std.specs.Prelude.{ℕ, suc, ◌+◌, ◌-◌, List, [], ◌∷◌, ◌++◌, eqb, leb, ltb, length, set, drop, replicate, Ok}
+use Rattle.std.specs.Prelude.{ℕ, suc, ◌-◌, List, [], ◌∷◌, ◌++◌, eqb, leb, ltb, length, set, drop, replicate, Ok}
 use Rattle.laws.specs.Areas.{up_from, capacity}
 use Rattle.circuit.specs.declared.refusals.Refusal.TheVariants.{TextTooLong, NotAscii, NoRoom, NoDriver, HeaderMismatch, DrivenTwice}
-use Rattle.circuit.specs.declared.records.NodeNumber.{NodeNumber}
 use Rattle.circuit.specs.declared.records.WireNumber.{WireNumber}
 use Rattle.circuit.specs.declared.records.BoolWire.{BoolWire}
 use Rattle.circuit.specs.declared.records.BoolWire.TheVariants.{Node}
@@ -12,14 +11,16 @@ use Rattle.circuit.specs.declared.records.Name.TheVariants.{Number}
 use Rattle.circuit.specs.declared.records.Output.{Output}
 use Rattle.circuit.specs.declared.records.Sizes.{Sizes}
 use Rattle.circuit.specs.Refusals.{Try, and_then, need}
-use Rattle.circuit.specs.Records.{wire_of, wire_word, no_wire}
+use Rattle.circuit.specs.Records.{input_node}
 use Rattle.circuit.specs.Circuits.{Circuit, filled, read_answer, node_words, output_words}
 use Rattle.text.specs.Bytes.{is_ascii}
 use Rattle.text.specs.Words.{split_whitespace}
 use Rattle.text.specs.Lines.{kept_lines}
 use Rattle.bristol_rows.specs.declared.answers.Head.{Head}
 use Rattle.bristol_rows.specs.Header.{header}
-use Rattle.bristol_rows.specs.Row.{wire_number, slot_of, Gate, alias, cell, row}
+use Rattle.bristol_rows.specs.declared.slots.TheConstants.{UNDRIVEN}
+use Rattle.bristol_rows.specs.Slots.{wire_number, node_number, slot_of, slot_of_driver, slot_of_node, driver_of_slot}
+use Rattle.bristol_rows.specs.Row.{Gate, alias, cell, row}
 
 -- ---- the rows in turn
 
@@ -28,13 +29,11 @@ pub record State : Type 0 where
   pub nodes : List BoolNode
   pub wires : List ℕ
 
--- "a node number [counts] places in the circuit"
-abbrev pub node_number : ℕ → NodeNumber
-node_number n = record { 0 = n }
-
--- "14 Bristol wire driven twice"
+-- a wire of the file gets its driver, a wire of the circuit, once
 unfoldable pub drive : WireNumber → BoolWire → List BoolNode → List ℕ → Try State
-drive out w ns ws = need (eqb (slot_of ws out) 0) DrivenTwice (Ok (record { nodes = ns; wires = set ws out.0 (wire_word w + 1) }))
+drive out w ns ws =
+    need (eqb (slot_of ws out) UNDRIVEN) DrivenTwice
+    (Ok (record { nodes = ns; wires = set ws out.0 (slot_of_driver w) }))
 
 -- "then 3, 14"
 unfoldable pub store_cell : ℕ → WireNumber → BoolNode → List BoolNode → List ℕ → Try State
@@ -55,26 +54,31 @@ rows room (l ∷ ls) s = and_then (row_step room l s) (rows room ls)
 
 -- "an output's name is its wire number"
 abbrev pub output_of : WireNumber → ℕ → Output
-output_of w slot = record { name = Number w; wire = wire_of (slot - 1) }
+output_of w slot = record { name = Number w; wire = driver_of_slot slot }
 
 -- "5 if undefined", then 3: the outputs of wires k, k + 1, .., by their slots
 unfoldable pub outputs_from : ℕ → ℕ → List ℕ → List Output → Try (List Output)
 outputs_from room k [] os = Ok os
 outputs_from room k (s ∷ ss) os =
-    need (ltb 0 s) NoDriver (need (ltb (length os) room) NoRoom
+    need (ltb UNDRIVEN s) NoDriver (need (ltb (length os) room) NoRoom
     (outputs_from room (suc k) ss (os ++ (output_of (wire_number k) s ∷ []))))
 
 -- ---- the whole
 
--- "Inputs are wires from 0, each named by the letter i, an underscore and its wire number."
-abbrev pub input_node : ℕ → BoolNode
-input_node k = record { kind = 1; count = 0; table = 0; name = Number (wire_number k); first = no_wire; second = no_wire }
+-- the node of input k, named by its wire of the file
+abbrev pub wire_input : ℕ → BoolNode
+wire_input k = input_node (Number (wire_number k))
 
+-- the slot of its wire
 abbrev pub input_slot : ℕ → ℕ
-input_slot k = wire_word (Node (node_number k)) + 1
+input_slot k = slot_of_node (node_number k)
 
+-- before the rows: the inputs are the first nodes and drive the first wires of the file
 unfoldable pub start : Head → State
-start h = record { nodes = up_from input_node 0 h.inputs; wires = up_from input_slot 0 h.inputs ++ replicate (h.wires - h.inputs) 0 }
+start h = record {
+  nodes = up_from wire_input 0 h.inputs;
+  wires = up_from input_slot 0 h.inputs ++ replicate (h.wires - h.inputs) UNDRIVEN;
+}
 
 -- "Row count 11. Outputs are the last wires"
 unfoldable pub body : ℕ → ℕ → Head → List (List ℕ) → Try Circuit

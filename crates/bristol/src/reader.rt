@@ -3,7 +3,7 @@ ghost use Rattle.std.specs.Prelude.{◌≡◌, [], ◌++◌, ◌*◌, ◌≤◌,
 ghost use Rattle.laws.specs.Areas.{capacity, up_from};
 ghost use Rattle.text.specs.Lines.{kept_lines};
 ghost use Rattle.text.specs.Iterators.{kept_left};
-ghost use Rattle.bristol.specs.Bristol.{input_node, input_slot, rows, body, circuit, leave, bristol};
+ghost use Rattle.bristol.specs.Bristol.{wire_input, input_slot, rows, body, circuit, leave, bristol};
 ghost use Rattle.bristol.specs.Promises.{Zeros, HoldsNodes, Ready, RowsAre, ReadIs, Leaves};
 
 use crate::answers::Rows;
@@ -11,6 +11,7 @@ use crate::outputs::put_wires;
 use crate::rows::read_rows;
 use bristol_rows::answers::Head;
 use bristol_rows::header::read_header;
+use bristol_rows::slots::slot_of_node;
 use circuit::areas::{clear_all, put_node, records_in};
 use circuit::records::{BoolNode, Name, NodeNumber, Sizes, WireNumber};
 use circuit::refusals::Refusal;
@@ -18,29 +19,27 @@ use text::bytes::is_ascii;
 use text::iterators::kept_lines;
 use text::lines::KeptLines;
 
-// The inputs: node k is the input of wire k.
-#[tactic(auto, using(laws::proofs::Areas::length_up, laws::proofs::Sums::up_next, crate::proofs::StoreLaws::hold_node))]
-pub fn put_inputs(nodes: &mut [usize], count: usize)
-    requires { (count * 9 ≤ length nodes.old) × HoldsNodes nodes.old [] }
-    ensures { HoldsNodes nodes.new (up_from input_node 0 count) }
+/// The inputs: each of the first wires of the file is driven by an input node of its own, the next of the circuit. The answer
+/// is the number of the node after them.
+pub fn put_inputs(nodes: &mut [usize], wires: &mut [usize], count: usize) -> NodeNumber
+    requires rooms { (count * 9 ≤ length nodes.old) × (count ≤ length wires.old) × (count < 1048577) }
+    requires nodes_empty { HoldsNodes nodes.old [] }
+    ensures nodes_held { HoldsNodes nodes.new (up_from wire_input 0 count) }
+    ensures wires_driven { wires.new ≡ up_from input_slot 0 count ++ drop count wires.old }
+    ensures next { result.0 ≡ count }
 {
-    for k in 0..count {
-        put_node(nodes, k, BoolNode::input(Name::Number(WireNumber(k))));
+    let mut wire = WireNumber(0);
+    let mut next = NodeNumber(0);
+    while wire.0 < count {
+        put_node(nodes, next.0, BoolNode::input(Name::Number(wire)));
+        wires[wire.0] = slot_of_node(next);
+        wire = WireNumber(wire.0 + 1);
+        next = NodeNumber(next.0 + 1);
     }
+    next
 }
 
-// The slots of the inputs' wires: wire k is driven by node k.
-#[tactic(auto, using(laws::proofs::Sums::front_more))]
-pub fn drive_inputs(wires: &mut [usize], count: usize)
-    requires { (count ≤ length wires.old) × (count < 1048577) }
-    ensures { wires.new ≡ up_from input_slot 0 count ++ drop count wires.old }
-{
-    for (k, wire) in wires[..count].iter_mut().enumerate() {
-        *wire = k + 3;
-    }
-}
-
-// The inputs, and the rows after them.
+/// The inputs, and the rows after them.
 #[tactic(auto, using(laws::proofs::Areas::length_up, crate::proofs::ReadLaws::rows_told), unfolding(laws::specs::Areas::capacity))]
 pub fn read_gates(
     lines: KeptLines,
@@ -49,14 +48,14 @@ pub fn read_gates(
     inputs: usize,
 ) -> Result<Rows, Refusal>
     requires { (inputs ≤ length wires.old) × (inputs ≤ capacity 9 (length nodes.old)) × HoldsNodes nodes.old [] }
-    ensures { RowsAre (length (kept_left lines.entry)) nodes.new wires.new (rows (capacity 9 (length nodes.old)) (kept_left lines.entry) (record { nodes = up_from input_node 0 inputs; wires = up_from input_slot 0 inputs ++ drop inputs wires.old })) result }
+    ensures { RowsAre (length (kept_left lines.entry)) nodes.new wires.new (rows (capacity 9 (length nodes.old)) (kept_left lines.entry) (record { nodes = up_from wire_input 0 inputs; wires = up_from input_slot 0 inputs ++ drop inputs wires.old })) result }
 {
-    put_inputs(nodes, inputs);
-    drive_inputs(wires, inputs);
-    read_rows(lines, nodes, wires, NodeNumber(inputs))
+    let next = put_inputs(nodes, wires, inputs);
+    read_rows(lines, nodes, wires, next)
 }
 
-// The circuit of a header that fits the areas; `wires` has a place for each wire.
+/// The circuit of a header that fits the areas; `wires` has a place for each wire of the file. `HeaderMismatch` if there are not
+/// as many rows as the header says.
 #[tactic(auto, using(crate::proofs::ReadLaws::start_is, crate::proofs::ReadLaws::rows_told, crate::proofs::ReadLaws::body_built), unfolding(crate::specs::Bristol::body))]
 pub fn read_body(
     lines: KeptLines,
@@ -72,14 +71,14 @@ pub fn read_body(
     if read.rows != head.gates {
         return Err(Refusal::HeaderMismatch);
     }
-    let count = put_wires(wires, head.wires - head.outputs, outputs)?;
+    let count = put_wires(wires, WireNumber(head.wires - head.outputs), outputs)?;
     Ok(Sizes {
         nodes: read.next.0,
         outputs: count,
     })
 }
 
-// The same, with zeros in the wires after it, and in the other areas after a refusal.
+/// The same, with zeros in the wires after it, and in the other areas after a refusal.
 pub fn read_clean(
     lines: KeptLines,
     head: Head,
@@ -99,7 +98,7 @@ pub fn read_clean(
     read
 }
 
-// A header and what follows it, into areas that are zero.
+/// A header and what follows it, into areas that are zero. `NoRoom` if the wire area or the node area is too short for the header.
 #[tactic(auto, using(crate::proofs::ReadLaws::zeros_hold), unfolding(crate::specs::Bristol::circuit, laws::specs::Areas::capacity))]
 pub fn read_circuit(
     text: &[u8],
@@ -118,8 +117,7 @@ pub fn read_circuit(
     read_clean(lines, head, nodes, outputs, &mut wires[..head.wires])
 }
 
-// The checks of the text, then its circuit.
-// `reading::areas::bytes_fault` makes the same two checks: to stand on that crate's name tables and joined texts for them would be no plainer.
+/// The checks of the text, `TextTooLong` and `NotAscii`, then its circuit, into areas that are zero.
 #[tactic(auto, unfolding(crate::specs::Bristol::bristol, crate::specs::Bristol::bristol_circuit))]
 pub fn read_text(
     text: &[u8],
@@ -139,7 +137,8 @@ pub fn read_text(
     read_circuit(text, nodes, outputs, wires)
 }
 
-// A Bristol text into areas for nodes, outputs and wires; the wires are a work area. The C interface lends each by itself.
+/// Reads a Bristol text into areas for nodes, outputs and wires: how many nodes and outputs it has, or the refusal. The wires are
+/// a work area, zero after the call; after a refusal the other areas are zero too.
 pub fn parse_bristol(
     text: &[u8],
     nodes: &mut [usize],

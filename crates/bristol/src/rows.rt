@@ -12,7 +12,7 @@ use circuit::records::NodeNumber;
 use circuit::refusals::Refusal;
 use text::lines::KeptLines;
 
-// A row, read and stored. With a struct of `nodes`, `wires` and `next` each function would also promise that the two `&mut` in it stay the same: no shorter.
+/// A row, read and stored: the number of the next node then.
 #[tactic(auto, unfolding(crate::specs::Bristol::row_step))]
 pub fn row_step(
     line: &[u8],
@@ -26,7 +26,7 @@ pub fn row_step(
     store_row(nodes, wires, next, row)
 }
 
-// The rows that are left.
+/// The rows that are left, read and stored in turn, from the first node that they may make.
 #[tactic(auto, using(crate::proofs::StoreLaws::kept_few, crate::proofs::StoreLaws::going_start, crate::proofs::StoreLaws::going_end))]
 pub fn read_rows(
     lines: KeptLines,

@@ -1,45 +1,48 @@
 // What a row made, stored.
-ghost use Rattle.std.specs.Prelude.{List, ℕ, ◌+◌, ◌<◌, ◌^◌, length, Ok};
+ghost use Rattle.std.specs.Prelude.{List, ℕ, ◌<◌, ◌^◌, length, Ok};
 ghost use Rattle.laws.specs.Areas.{capacity};
 ghost use Rattle.circuit.specs.declared.records.BoolNode.{BoolNode};
 ghost use Rattle.circuit.specs.Records.{wire_word};
+ghost use Rattle.bristol_rows.specs.Slots.{slot_of_driver};
 ghost use Rattle.bristol_rows.specs.Promises.{RowFits, gate_of};
 ghost use Rattle.bristol.specs.Bristol.{drive, store_cell};
 ghost use Rattle.bristol.specs.Promises.{OfHeld, DriveIs, StepIs, store_of};
 
 use bristol_rows::answers::Row;
+use bristol_rows::slots::{UNDRIVEN, slot_of, slot_of_driver};
 use circuit::areas::{put_node, records_in};
-use circuit::records::{BoolNode, BoolWire, NodeNumber, WireNumber, wire_word};
+use circuit::records::{BoolNode, BoolWire, NodeNumber, WireNumber};
 use circuit::refusals::Refusal;
 
-// A wire of the file, driven by a wire of the circuit.
+/// A wire of the file, driven by a wire of the circuit from now on; `DrivenTwice` if it has a driver.
 #[tactic(auto, unfolding(crate::specs::Bristol::drive))]
 pub fn drive(wires: &mut [usize], out: WireNumber, wire: BoolWire) -> Result<(), Refusal>
-    requires { (out.0 < length wires.old) × (wire_word wire + 1 < 2 ^ 64) }
+    requires { (out.0 < length wires.old) × (slot_of_driver wire < 2 ^ 64) }
     ensures { (ns : List BoolNode) → DriveIs ns wires.new (drive out wire ns wires.old) result }
 {
-    if wires[out.0] != 0 {
+    if slot_of(wires, out) != UNDRIVEN {
         return Err(Refusal::DrivenTwice);
     }
-    wires[out.0] = wire_word(wire) + 1;
+    wires[out.0] = slot_of_driver(wire);
     Ok(())
 }
 
-// Another name of a wire of the circuit.
+/// A row that makes no cell: its output wire is driven by what drives its input. The next node stays the same.
 pub fn store_alias(
     wires: &mut [usize],
     next: NodeNumber,
     out: WireNumber,
     wire: BoolWire,
 ) -> Result<NodeNumber, Refusal>
-    requires { (out.0 < length wires.old) × (wire_word wire + 1 < 2 ^ 64) }
+    requires { (out.0 < length wires.old) × (slot_of_driver wire < 2 ^ 64) }
     ensures { (a : List ℕ) → OfHeld a next.0 (λ ns. StepIs a wires.new (drive out wire ns wires.old) result) }
 {
     drive(wires, out, wire)?;
     Ok(next)
 }
 
-// A cell, which is the next node.
+/// A cell, which becomes the next node and drives its output wire: `NoRoom`, then `DrivenTwice`. The answer is the number of the
+/// node after it.
 #[tactic(auto, using(crate::proofs::StoreLaws::hold_node, crate::proofs::StoreLaws::cell_once), unfolding(crate::specs::Bristol::store_cell, laws::specs::Areas::capacity))]
 pub fn store_cell(
     nodes: &mut [usize],
@@ -60,7 +63,7 @@ pub fn store_cell(
     Ok(NodeNumber(next.0 + 1))
 }
 
-// A row, stored: the number of the next node.
+/// What a row made, stored: the number of the next node then.
 #[tactic(auto, unfolding(crate::specs::Bristol::store))]
 pub fn store_row(
     nodes: &mut [usize],

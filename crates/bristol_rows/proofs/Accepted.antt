@@ -14,7 +14,8 @@ use Rattle.circuit.proofs.Tries.{no_yes, yes_same, then_yes, need-yes}
 use Rattle.text.specs.Numbers.{parse_usize, parse_each}
 use Rattle.bristol_rows.specs.Numbers.{or_refuse, number, each_number}
 use Rattle.bristol_rows.specs.Operation.{Op, operation}
-use Rattle.bristol_rows.specs.Row.{wire_number, drivers, Gate, gate, row_output, row_wires, row}
+use Rattle.bristol_rows.specs.Slots.{wire_number}
+use Rattle.bristol_rows.specs.Row.{drivers, Gate, gate, row_output, row_wires, row}
 
 number-some : (w : List ℕ) (n : ℕ) → number w ≡ Ok n → parse_usize w ≡ some n
 unfolding number

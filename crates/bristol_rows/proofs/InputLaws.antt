@@ -19,7 +19,8 @@ use Rattle.circuit.specs.Refusals.{Try, and_then, need}
 use Rattle.circuit.specs.Records.{wire_of, no_wire}
 use Rattle.text.specs.Numbers.{parse_usize, parse_each, and_then as then}
 use Rattle.bristol_rows.specs.declared.answers.Slots.{Slots}
-use Rattle.bristol_rows.specs.Row.{wire_number, drivers}
+use Rattle.bristol_rows.specs.Slots.{wire_number}
+use Rattle.bristol_rows.specs.Row.{drivers}
 use Rattle.bristol_rows.specs.Promises.{no_slots, add_slot, add_input, add_inputs, Gathered}
 
 -- ---- one slot

@@ -21,7 +21,8 @@ use Rattle.bristol_rows.specs.declared.answers.Slots.{Slots}
 use Rattle.bristol_rows.specs.declared.answers.Row.{Row}
 use Rattle.bristol_rows.specs.Numbers.{or_refuse, number, each_number}
 use Rattle.bristol_rows.specs.Operation.{operation}
-use Rattle.bristol_rows.specs.Row.{wire_number, drivers, Gate, gate, row_output, row_wires, row}
+use Rattle.bristol_rows.specs.Slots.{wire_number}
+use Rattle.bristol_rows.specs.Row.{drivers, Gate, gate, row_output, row_wires, row}
 use Rattle.bristol_rows.specs.Promises.{no_slots, add_inputs, Gathered, drivers_of, RowIs, gate_by, output_by, end_by, wires_by, invalid_arity, first_arity, wrong_outputs}
 use Rattle.bristol_rows.proofs.OperationLaws.{operation_no}
 use Rattle.bristol_rows.proofs.InputLaws.{inputs_invalid, inputs-slots, inputs_valid, undriven_slots, drivers-length, Driven, driven_slots}

@@ -2,5 +2,6 @@ pub mod Words
 pub mod Numbers
 pub mod Header
 pub mod Operation
+pub mod Slots
 pub mod Row
 pub mod Promises

@@ -1,6 +1,6 @@
 -- What the functions of this crate promise: their answers against the definitions.
 -- Assumes nothing.
-use Rattle.std.specs.Prelude.{ℕ, suc, ◌+◌, ◌-◌, ◌≤◌, ◌<◌, ◌^◌, ◌≡◌, true, false, cond, List, [], ◌∷◌, eqb, leb, ltb, length, get_or, take, drop, Err, Ok, Some, None, Option as Answer}
+use Rattle.std.specs.Prelude.{ℕ, suc, ◌+◌, ◌≤◌, ◌<◌, ◌^◌, ◌≡◌, true, false, cond, List, [], ◌∷◌, eqb, leb, ltb, length, get_or, take, drop, Err, Ok, Some, None, Option as Answer}
 use Rattle.std.proofs.Math.Option.{Option, none, some}
 use Rattle.circuit.specs.declared.refusals.Refusal.{Refusal}
 use Rattle.circuit.specs.declared.refusals.Refusal.TheVariants.{NoDriver, WrongCount, Malformed, NotNumber, OutputOutside}
@@ -8,7 +8,7 @@ use Rattle.circuit.specs.declared.records.WireNumber.{WireNumber}
 use Rattle.circuit.specs.declared.records.BoolWire.{BoolWire}
 use Rattle.circuit.specs.declared.records.BoolNode.{BoolNode}
 use Rattle.circuit.specs.Refusals.{Try, and_then, need}
-use Rattle.circuit.specs.Records.{wire_of, wire_word}
+use Rattle.circuit.specs.Records.{wire_word}
 use Rattle.text.specs.Numbers.{parse_usize}
 use Rattle.bristol_rows.specs.declared.answers.Widths.{Widths}
 use Rattle.bristol_rows.specs.declared.answers.Counts.{Counts}
@@ -19,7 +19,9 @@ use Rattle.bristol_rows.specs.declared.answers.Row.TheVariants.{Alias as RowAlia
 use Rattle.bristol_rows.specs.Numbers.{or_refuse, number}
 use Rattle.bristol_rows.specs.Header.{grouped_wire_count, header}
 use Rattle.bristol_rows.specs.Operation.{Op, same, table, operation}
-use Rattle.bristol_rows.specs.Row.{wire_number, Gate, alias, cell, gate, row_wires}
+use Rattle.bristol_rows.specs.declared.slots.TheConstants.{UNDRIVEN}
+use Rattle.bristol_rows.specs.Slots.{wire_number, slot_of, slot_of_driver, driver_of_slot}
+use Rattle.bristol_rows.specs.Row.{Gate, alias, cell, gate, row_wires}
 
 -- ---- the next word as a number
 
@@ -89,18 +91,18 @@ made_of (Ok (Some t)) = Ok (table t)
 -- ---- the input wires
 
 abbrev pub no_slots : Slots
-no_slots = record { first = 0; second = 0; undriven = false; invalid = false }
+no_slots = record { first = UNDRIVEN; second = UNDRIVEN; undriven = false; invalid = false }
 
 unfoldable pub add_slot : Slots → ℕ → ℕ → Slots
 add_slot s i slot =
-    cond (eqb slot 0) (record { first = s.first; second = s.second; undriven = true; invalid = s.invalid })
+    cond (eqb slot UNDRIVEN) (record { first = s.first; second = s.second; undriven = true; invalid = s.invalid })
     (cond (eqb i 0) (record { first = slot; second = s.second; undriven = s.undriven; invalid = s.invalid })
     (cond (eqb i 1) (record { first = s.first; second = slot; undriven = s.undriven; invalid = s.invalid })
     s))
 
 abbrev pub add_input : List ℕ → Slots → ℕ → Option ℕ → Slots
 add_input wires s i none = record { first = s.first; second = s.second; undriven = s.undriven; invalid = true }
-add_input wires s i (some v) = add_slot s i (get_or wires v 0)
+add_input wires s i (some v) = add_slot s i (slot_of wires (wire_number v))
 
 -- from input i on
 unfoldable pub add_inputs : List ℕ → ℕ → Slots → List (List ℕ) → Slots
@@ -121,7 +123,7 @@ InputsAre n wires ws us (Some slots) = Gathered n wires ws us slots
 
 -- the drivers of one or two inputs
 abbrev pub drivers_of : ℕ → Slots → List BoolWire
-drivers_of n s = cond (eqb n 1) (wire_of (s.first - 1) ∷ []) (wire_of (s.first - 1) ∷ wire_of (s.second - 1) ∷ [])
+drivers_of n s = cond (eqb n 1) (driver_of_slot s.first ∷ []) (driver_of_slot s.first ∷ driver_of_slot s.second ∷ [])
 
 -- a node, whose wires' words fit
 pub record CellIs (n r : BoolNode) : Type 0 where
@@ -137,7 +139,7 @@ gate_of (Ok (RowCell out n)) = Ok (cell out n)
 -- of m wires; what is stored fits a word
 abbrev pub RowFits : ℕ → Try Row → Type 0
 RowFits m (Err e) = Unit
-RowFits m (Ok (RowAlias out w)) = (out.0 < m) × (wire_word w + 1 < 2 ^ 64)
+RowFits m (Ok (RowAlias out w)) = (out.0 < m) × (slot_of_driver w < 2 ^ 64)
 RowFits m (Ok (RowCell out n)) = (out.0 < m) × (wire_word n.first < 2 ^ 64) × (wire_word n.second < 2 ^ 64)
 
 pub record RowIs (m : ℕ) (x : Try Gate) (r : Try Row) : Type 0 where

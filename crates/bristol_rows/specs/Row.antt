@@ -1,28 +1,24 @@
 -- A gate row: what it makes of its output wire, by the wires driven so far.
 -- Assumes nothing.
-use Rattle.std.specs.Prelude.{ℕ, ◌+◌, ◌-◌, List, [], ◌∷◌, map, eqb, leb, ltb, length, get_or, take, drop, Ok}
+use Rattle.std.specs.Prelude.{ℕ, ◌+◌, List, [], ◌∷◌, map, eqb, leb, ltb, length, get_or, take, drop, Ok}
 use Rattle.circuit.specs.declared.refusals.Refusal.TheVariants.{NoDriver, WrongCount, Malformed, OutputOutside}
 use Rattle.circuit.specs.declared.records.WireNumber.{WireNumber}
 use Rattle.circuit.specs.declared.records.BoolWire.{BoolWire}
 use Rattle.circuit.specs.declared.records.BoolNode.{BoolNode}
 use Rattle.circuit.specs.declared.records.Name.TheVariants.{Number}
 use Rattle.circuit.specs.Refusals.{Try, and_then, need}
-use Rattle.circuit.specs.Records.{wire_of, no_wire}
+use Rattle.circuit.specs.Records.{no_wire}
+use Rattle.bristol_rows.specs.declared.slots.TheConstants.{UNDRIVEN}
 use Rattle.bristol_rows.specs.Numbers.{number, each_number}
 use Rattle.bristol_rows.specs.Operation.{Op, same, table, operation}
+use Rattle.bristol_rows.specs.Slots.{wire_number, slot_of, driver_of_slot}
 
--- "A Bristol wire number counts wires of the file"
-abbrev pub wire_number : ℕ → WireNumber
-wire_number n = record { 0 = n }
-
--- The slot of a wire of the file, in the wires area: 0 if nothing drives it, else one more than the word of the circuit's wire that does.
-abbrev pub slot_of : List ℕ → WireNumber → ℕ
-slot_of wires w = get_or wires w.0 0
-
--- "undefined input 5": the circuit's wires that drive these wires of the file
+-- the circuit's wires that drive these wires of the file, or the refusal of one that nothing drives
 unfoldable pub drivers : List ℕ → List WireNumber → Try (List BoolWire)
 drivers wires [] = Ok []
-drivers wires (w ∷ ws) = need (ltb 0 (slot_of wires w)) NoDriver (and_then (drivers wires ws) (λ ds. Ok (wire_of (slot_of wires w - 1) ∷ ds)))
+drivers wires (w ∷ ws) =
+    need (ltb UNDRIVEN (slot_of wires w)) NoDriver
+    (and_then (drivers wires ws) (λ ds. Ok (driver_of_slot (slot_of wires w) ∷ ds)))
 
 -- what a row makes of its output wire: another name of a wire of the circuit, or a cell
 pub data Gate : Type 0 where

@@ -7,4 +7,5 @@ pub mod header;
 pub mod numbers;
 pub mod operation;
 pub mod row;
+pub mod slots;
 pub mod words;

@@ -1,6 +1,5 @@
 // A gate row, read once from its first word to its last, against the wires driven so far.
-ghost use Rattle.std.specs.Prelude.{◌≡◌, ◌-◌, ◌<◌, length, get_or, drop};
-ghost use Rattle.circuit.specs.Records.{wire_of};
+ghost use Rattle.std.specs.Prelude.{◌≡◌, ◌<◌, length};
 ghost use Rattle.text.specs.Words.{split_whitespace};
 ghost use Rattle.text.specs.Numbers.{number_of};
 ghost use Rattle.bristol_rows.specs.Words.{words_left};
@@ -10,26 +9,20 @@ ghost use Rattle.bristol_rows.specs.Promises.{add_slot, add_input, InputsAre, dr
 use crate::answers::{Inputs, Row, Slots};
 use crate::numbers::{next_arity, read_number};
 use crate::operation::read_operation;
+use crate::slots::{UNDRIVEN, driver_of_slot, slot_of};
 use crate::words::{LineWords, count_words, split_whitespace};
 use circuit::records::{BoolNode, BoolWire, Name, WireNumber};
 use circuit::refusals::Refusal;
 use text::numbers::parse_usize;
 
-// The slot of a wire: 0 if it is not driven, or there is no such wire. A slot is a word of a lent area, so no wire is a 0, and not a `None`.
-pub fn slot_of(wires: &[usize], w: WireNumber) -> usize
-    ensures { result ≡ get_or wires.now w.0 0 }
-{
-    wires.get(w.0).copied().unwrap_or(0)
-}
-
 impl Slots {
-    // With the slot of input i.
+    /// With the slot of input `i`; only the first two are kept, since no operation takes more.
     #[tactic(auto, unfolding(crate::specs::Promises::add_slot))]
     pub fn add_slot(self, i: usize, slot: usize) -> Slots
         ensures { result ≡ add_slot self i slot }
     {
         match (slot, i) {
-            (0, _) => Slots {
+            (UNDRIVEN, _) => Slots {
                 undriven: true,
                 ..self
             },
@@ -45,7 +38,7 @@ impl Slots {
         }
     }
 
-    // With input i, by its word's number.
+    /// With input `i`, by the number of its word (`None`: it is no number).
     pub fn add_input(self, i: usize, number: Option<usize>, wires: &[usize]) -> Slots
         ensures { result ≡ add_input wires.now self i (number_of number) }
     {
@@ -59,7 +52,7 @@ impl Slots {
     }
 }
 
-// The next n words as input wires; none if there are fewer.
+/// The next `n` words as input wires, by the slots of all wires; `None` if fewer words are left.
 #[tactic(auto, using(crate::proofs::InputLaws::got_end))]
 pub fn read_inputs(words: &mut LineWords, n: usize, wires: &[usize]) -> Option<Slots>
     ensures { InputsAre n wires.now (words_left words.old) (words_left words.new) result }
@@ -71,33 +64,27 @@ pub fn read_inputs(words: &mut LineWords, n: usize, wires: &[usize]) -> Option<S
     Some(slots)
 }
 
-// The wire of the circuit that a slot holds.
-pub fn slot_wire(s: usize) -> BoolWire
-    ensures { result ≡ wire_of (s - 1) }
-{
-    BoolWire::from(s.saturating_sub(1))
-}
-
-// The cell of a row with one or two inputs. `circuit` makes the node of an input alone: a cell is named in each format's own way.
+/// The cell of a row with one or two inputs, named by its output wire.
 pub fn cell_node(out: WireNumber, table: usize, inputs: Inputs) -> BoolNode
     ensures { CellIs (cell_node out table (drivers_of inputs.count inputs.slots)) result }
 {
     let (count, second) = if inputs.count == 1 {
         (1, BoolWire::Const(false))
     } else {
-        (2, slot_wire(inputs.slots.second))
+        (2, driver_of_slot(inputs.slots.second))
     };
     BoolNode {
         kind: 2,
         count,
         table,
         name: Name::Number(out),
-        first: slot_wire(inputs.slots.first),
+        first: driver_of_slot(inputs.slots.first),
         second,
     }
 }
 
-// The operation of a row whose wires are in order.
+/// What a row makes by its operation, the wires being in order. `WrongCount` or `Unknown` if the operation does not take so
+/// many inputs.
 #[tactic(auto, unfolding(crate::specs::Promises::gate_by))]
 pub fn row_gate(op: &[u8], inputs: Inputs, out: WireNumber, wires: usize) -> Result<Row, Refusal>
     requires { out.0 < wires }
@@ -106,7 +93,7 @@ pub fn row_gate(op: &[u8], inputs: Inputs, out: WireNumber, wires: usize) -> Res
     Ok(match read_operation(op, inputs.count)? {
         None => Row::Alias {
             out,
-            wire: slot_wire(inputs.slots.first),
+            wire: driver_of_slot(inputs.slots.first),
         },
         Some(table) => Row::Cell {
             out,
@@ -115,7 +102,8 @@ pub fn row_gate(op: &[u8], inputs: Inputs, out: WireNumber, wires: usize) -> Res
     })
 }
 
-// The output wire's word and the operation's.
+/// What a row makes, by the words of its output wire and of its operation: `NotNumber` if one of its wires is no number,
+/// `OutputOutside`, `NoDriver`, then the operation's refusals.
 #[tactic(auto, unfolding(crate::specs::Promises::output_by))]
 pub fn row_output(wire: &[u8], op: &[u8], inputs: Inputs, wires: usize) -> Result<Row, Refusal>
     ensures { RowIs wires (output_by wire.now op.now inputs.count inputs.slots wires) result }
@@ -123,17 +111,17 @@ pub fn row_output(wire: &[u8], op: &[u8], inputs: Inputs, wires: usize) -> Resul
     if inputs.slots.invalid {
         return Err(Refusal::NotNumber);
     }
-    let out = read_number(wire)?;
-    if wires <= out {
+    let out = WireNumber(read_number(wire)?);
+    if wires <= out.0 {
         return Err(Refusal::OutputOutside);
     }
     if inputs.slots.undriven {
         return Err(Refusal::NoDriver);
     }
-    row_gate(op, inputs, WireNumber(out), wires)
+    row_gate(op, inputs, out, wires)
 }
 
-// The words after the input wires: two.
+/// What a row makes, by the words after its input wires: `Malformed` unless they are two.
 #[tactic(auto, unfolding(crate::specs::Promises::end_by))]
 pub fn row_end(mut words: LineWords, inputs: Inputs, wires: usize) -> Result<Row, Refusal>
     ensures { RowIs wires (end_by (words_left words.entry) inputs.count inputs.slots wires) result }
@@ -144,7 +132,7 @@ pub fn row_end(mut words: LineWords, inputs: Inputs, wires: usize) -> Result<Row
     row_output(wire, op, inputs, wires)
 }
 
-// The words after the arities, of a row with one output.
+/// What a row with one output makes, by the words after its arities.
 #[tactic(auto, using(crate::proofs::RowLaws::wires_end))]
 pub fn row_wires(mut words: LineWords, count: usize, wires: &[usize]) -> Result<Row, Refusal>
     ensures { RowIs (length wires.now) (wires_by wires.now count (words_left words.entry)) result }
@@ -153,7 +141,7 @@ pub fn row_wires(mut words: LineWords, count: usize, wires: &[usize]) -> Result<
     row_end(words, Inputs { count, slots }, wires.len())
 }
 
-// What another number of outputs than one is refused with: malformed all the same where words are missing or the width is wrong.
+/// What another number of outputs than one is refused with: `WrongCount`, but `Malformed` where words are missing or are too many.
 pub fn outputs_wrong(words: LineWords, inputs: usize, outputs: usize) -> Refusal
     ensures { result ≡ wrong_outputs inputs outputs (words_left words.entry) }
 {
@@ -165,7 +153,7 @@ pub fn outputs_wrong(words: LineWords, inputs: usize, outputs: usize) -> Refusal
     }
 }
 
-// A row.
+/// What a row makes of its output wire, by the slots of all wires of the file.
 pub fn read_row(line: &[u8], wires: &[usize]) -> Result<Row, Refusal>
     ensures { RowIs (length wires.now) (row wires.now (split_whitespace line.now)) result }
 {

@@ -29,10 +29,11 @@ use Rattle.text.specs.Numbers.{parse_usize, parse_each, and_then as then}
 use Rattle.runs.specs.Values.{entry_of}
 use Rattle.runs.proofs.Evaluating.{entry_small}
 use Rattle.bristol_rows.specs.Operation.{is_alias, inverts, two_input_table, truth_table, Op, same, table, operation}
-use Rattle.bristol_rows.specs.Row.{wire_number, drivers, cell_node, Gate, alias, cell, gate, row}
+use Rattle.bristol_rows.specs.Slots.{wire_number, node_number}
+use Rattle.bristol_rows.specs.Row.{drivers, cell_node, Gate, alias, cell, gate, row}
 use Rattle.bristol_rows.proofs.Accepted.{after, Accepts, accepted}
 use Rattle.bristol_rows.proofs.InputLaws.{front, drivers-nil}
-use Rattle.bristol.specs.Bristol.{State, node_number, drive, store_cell, store}
+use Rattle.bristol.specs.Bristol.{State, drive, store_cell, store}
 use Rattle.documents.specs.BristolFashion.{num, gate_bit, input_words, output_word, name_word, gate_step, is_page_gate}
 use Rattle.documents.proofs.BristolValues.{node_bits, bits_length, bits_snoc, Drives, driver, Follows, follow_set}
 

@@ -29,7 +29,8 @@ use Rattle.runs.proofs.Storage.{Known, evaluate_same}
 use Rattle.bristol_rows.specs.declared.answers.Head.{Head}
 use Rattle.bristol_rows.specs.Numbers.{or_refuse, each_number}
 use Rattle.bristol_rows.specs.Header.{grouped_wire_count, groups, group_lines, two_numbers, header}
-use Rattle.bristol_rows.specs.Row.{wire_number, row}
+use Rattle.bristol_rows.specs.Slots.{wire_number}
+use Rattle.bristol_rows.specs.Row.{row}
 use Rattle.bristol_rows.proofs.Accepted.{each-some}
 use Rattle.bristol.specs.Bristol.{State, store, row_step, rows, output_of, outputs_from, start, body, circuit, bristol_circuit}
 use Rattle.documents.specs.BristolFashion.{num, gate_step, gate_steps, widths, wire_count, input_bits, output_bits, meaning, is_page_gate, all_page_gates, read_alike}

@@ -23,13 +23,13 @@ use Rattle.circuit.proofs.Codes.{wire_back}
 use Rattle.circuit.proofs.Checks.{below_more}
 use Rattle.runs.specs.Values.{signal_value, values_from, entry_of}
 use Rattle.bristol_rows.specs.declared.answers.Head.{Head}
-use Rattle.bristol.specs.Bristol.{State, input_node, input_slot, start}
+use Rattle.bristol.specs.Bristol.{State, wire_input, input_slot, start}
 use Rattle.runs.proofs.NodeValues.{values_snoc, length-values}
 
 -- ---- the values of nodes
 
 module _ (rule : List ℕ → BoolNode → ℕ) (a : List ℕ) where
-  values-inputs : (m i p : ℕ) (vs : List ℕ) → values_from rule a p vs (up_from input_node i m) ≡ vs ++ up_from (λ k. get_or a k 0) p m
+  values-inputs : (m i p : ℕ) (vs : List ℕ) → values_from rule a p vs (up_from wire_input i m) ≡ vs ++ up_from (λ k. get_or a k 0) p m
   unfolding values_from is_cell_node
   values-inputs zero i p vs = sym (append-nil vs)
   values-inputs (suc m) i p vs =
@@ -113,7 +113,7 @@ follow_set ins s bits f more tail e h out l w v b d = record {
 
 -- ---- the start: the inputs drive the first wires
 
-input-bits : (ins : List ℕ) (m : ℕ) → node_bits ins (up_from input_node 0 m) ≡ up_from (λ k. get_or ins k 0) 0 m
+input-bits : (ins : List ℕ) (m : ℕ) → node_bits ins (up_from wire_input 0 m) ≡ up_from (λ k. get_or ins k 0) 0 m
 unfolding node_bits
 input-bits ins m = values-inputs entry_of ins m 0 0 []
 
@@ -128,7 +128,7 @@ start_follows h ins l k b = record {
 }
   where
     go : (i : ℕ) → (get_or (up_from input_slot 0 h.inputs ++ replicate (h.wires - h.inputs) 0) i 0 ≡ 0 → ⊥) → (t : Bool) → ltb i h.inputs ≡ t
-        → Drives ins (up_from input_node 0 h.inputs) (driver (up_from input_slot 0 h.inputs ++ replicate (h.wires - h.inputs) 0) i) (get_or (ins ++ replicate (h.wires - length ins) 0) i 0)
+        → Drives ins (up_from wire_input 0 h.inputs) (driver (up_from input_slot 0 h.inputs ++ replicate (h.wires - h.inputs) 0) i) (get_or (ins ++ replicate (h.wires - length ins) 0) i 0)
     go i nz true e =
         let m : i < h.inputs = ltb-true i h.inputs e in
         let slot = front_at input_slot h.inputs i (replicate (h.wires - h.inputs) 0) m in
@@ -136,7 +136,7 @@ start_follows h ins l k b = record {
         let new : driver (up_from input_slot 0 h.inputs ++ replicate (h.wires - h.inputs) 0) i ≡ Node (record { 0 = i }) = ap wire_of less in
         let inside : i < length ins = omega (arith, l) in
         rw new (record {
-          below = rw (length_up input_node 0 h.inputs) (lt-leb h.inputs i m);
+          below = rw (length_up wire_input 0 h.inputs) (lt-leb h.inputs i m);
           value = ap (λ (x : List ℕ). get_or x i 0) (input-bits ins h.inputs) ∙ up_at (λ j. get_or ins j 0) 0 0 h.inputs i m ∙ ap (λ (j : ℕ). get_or ins j 0) (zero-add i)
               ∙ sym (get_or-append ins (replicate (h.wires - length ins) 0) 0 i inside);
         })

@@ -11,4 +11,4 @@ use Rattle.bristol.proofs.outputs.put_wire.Goals as goal
 pub returns : goal.returns
 returns c os p h =
     hold_output c.args.outputs.now c.put_output.new.outputs os (output_of c.args.w c.args.slot) c.args.count p
-    (c.put_output.ensures ∙ ap (λ (z : BoolWire). stored c.args.outputs.now (c.args.count * 5) (encode_output (record { name = Number c.args.w; wire = z }))) c.slot_wire.ensures) c.put_output.auto.outputs h
+    (c.put_output.ensures ∙ ap (λ (z : BoolWire). stored c.args.outputs.now (c.args.count * 5) (encode_output (record { name = Number c.args.w; wire = z }))) c.driver_of_slot.ensures) c.put_output.auto.outputs h
