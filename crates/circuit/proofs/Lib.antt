@@ -2,6 +2,7 @@ pub mod Places
 pub mod Rules
 pub mod Codes
 pub mod Checks
+pub mod Fitting
 pub mod Circuits
 pub mod Sitting
 pub mod Tries

@@ -1,7 +1,7 @@
 -- What is held after a record more was accepted, and the wire of a name that has one.
 -- Assumes nothing.
 use Rattle.std.specs.Prelude.{None, Ok, Option, Some}
-use Prim.Native.Nat.{ℕ, ◌+◌}
+use Prim.Native.Nat.{ℕ}
 use mathlib.Core.Path.{◌≡◌, sym, ap, subst}
 use mathlib.Core.Bool.{Bool, true, false}
 use mathlib.Core.List.{List, [], ◌∷◌, ◌++◌}
@@ -13,7 +13,7 @@ use Rattle.circuit.specs.Refusals.{need}
 use Rattle.circuit.proofs.Tries.{no_yes, yes_same, then_yes, need-yes}
 use Rattle.text.specs.declared.words.Word.{Word}
 use Rattle.names.specs.Names.{Entry}
-use Rattle.reading.specs.Reading.{Places, Held, driver, add_name, with_names, add_node, add_alias, add_named, add_output}
+use Rattle.reading.specs.Reading.{Places, Held, driver, add_name, with_names, next_wire, add_node, add_alias, add_named, add_output}
 
 abbrev pub entry : Word → ℕ → Entry
 entry w wire = record { start = w.start; len = w.len; wire = wire }
@@ -34,12 +34,12 @@ pub alias_made : (p : Places) (w : Word) (wire : ℕ) (h h' : Held) → add_alia
 unfolding add_alias
 alias_made p w wire h h' q = name_made p.names w wire h.nodes h.names h' q
 
-pub named_made : (p : Places) (w : Word) (n : BoolNode) (h h' : Held) → add_named p w n h ≡ Ok h' → record { nodes = h.nodes ++ n ∷ []; names = entry w (length h.nodes + 2) ∷ h.names } ≡ h'
+pub named_made : (p : Places) (w : Word) (n : BoolNode) (h h' : Held) → add_named p w n h ≡ Ok h' → record { nodes = h.nodes ++ n ∷ []; names = entry w (next_wire h.nodes) ∷ h.names } ≡ h'
 unfolding add_named
 named_made p w n h h' q =
     let r = then_yes (add_node p.nodes n h.nodes) _ h' q in
-    subst (λ (ns : List BoolNode). record { nodes = ns; names = entry w (length h.nodes + 2) ∷ h.names } ≡ h') (sym (node_made p.nodes n h.nodes r.0 r.1))
-    (name_made p.names w (length h.nodes + 2) r.0 h.names h' r.2)
+    subst (λ (ns : List BoolNode). record { nodes = ns; names = entry w (next_wire h.nodes) ∷ h.names } ≡ h') (sym (node_made p.nodes n h.nodes r.0 r.1))
+    (name_made p.names w (next_wire h.nodes) r.0 h.names h' r.2)
 
 pub output_made : (room : ℕ) (w : Word) (os os' : List Word) → add_output room w os ≡ Ok os' → os ++ w ∷ [] ≡ os'
 unfolding add_output

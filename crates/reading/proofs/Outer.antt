@@ -13,6 +13,7 @@ use lib.Dec.{leb, ltb}
 use borrow.Author.Tests.{leb-false, ltb-false}
 use Rattle.laws.specs.Areas.{encodes}
 use Rattle.laws.proofs.Areas.{length-encodes, length_up}
+use Rattle.circuit.specs.declared.records.TheConstants.{NODE_WORDS, OUTPUT_WORDS}
 use Rattle.circuit.specs.declared.refusals.Refusal.{Refusal}
 use Rattle.circuit.specs.declared.refusals.Refusal.TheVariants.{TextTooLong, NotAscii, NoRoom}
 use Rattle.circuit.specs.declared.records.Sizes.{Sizes}
@@ -99,9 +100,9 @@ module _ (text : List ℕ) (used : ℕ) (c : Try Circuit) (J N O : List ℕ) (m 
       record {
         answer = rw is (ap₂ (λ (n o : ℕ). Ok (record { nodes = n; outputs = o })) (sym ln) (sym lo));
         joined_is = rw is joins.area;
-        nodes_is = rw is (ends.nodes_kept.clean ∙ ap (λ (k : ℕ). encodes encode_node x.nodes ++ replicate (length N - k) 0) (sym (length-encodes encode_node 9 node_wide x.nodes ∙ ap (λ (k : ℕ). k * 9) ln)));
+        nodes_is = rw is (ends.nodes_kept.clean ∙ ap (λ (k : ℕ). encodes encode_node x.nodes ++ replicate (length N - k) 0) (sym (length-encodes encode_node NODE_WORDS node_wide x.nodes ∙ ap (λ (k : ℕ). k * 9) ln)));
         names_is = z;
-        outputs_is = rw is (ends.outputs_kept.clean ∙ ap (λ (k : ℕ). encodes encode_output x.outputs ++ replicate (length O - k) 0) (sym (length-encodes encode_output 5 output_wide x.outputs ∙ ap (λ (k : ℕ). k * 5) lo)));
+        outputs_is = rw is (ends.outputs_kept.clean ∙ ap (λ (k : ℕ). encodes encode_output x.outputs ++ replicate (length O - k) 0) (sym (length-encodes encode_output OUTPUT_WORDS output_wide x.outputs ∙ ap (λ (k : ℕ). k * OUTPUT_WORDS) lo)));
       }
 
 -- what the lines of a format add up to decides its circuit

@@ -16,6 +16,7 @@ use lib.Dec.{lit<}
 use Rattle.laws.specs.Areas.{encodes, stored, up_from}
 use Rattle.laws.proofs.Areas.{length_up, set_record}
 use Rattle.laws.proofs.Storing.{list_of, up_at}
+use Rattle.circuit.specs.declared.records.TheConstants.{OUTPUT_WORDS}
 use Rattle.circuit.specs.declared.refusals.Refusal.{Refusal}
 use Rattle.circuit.specs.declared.refusals.Refusal.TheVariants.{NoDriver, NoOutputs}
 use Rattle.circuit.specs.declared.records.BoolNode.{BoolNode}
@@ -32,14 +33,14 @@ use Rattle.reading.proofs.Steps.{length-words}
 abbrev out_from : (ℕ → ℕ) → Out
 out_from f = record { word = record { start = f 1; len = f 2 }; wire = f 4 }
 
-out_back : (a : Out) (f : ℕ → ℕ) → ((j : ℕ) → j < 5 → f j ≡ get_or (encode_out a) j 0) → out_from f ≡ a
+out_back : (a : Out) (f : ℕ → ℕ) → ((j : ℕ) → j < OUTPUT_WORDS → f j ≡ get_or (encode_out a) j 0) → out_from f ≡ a
 out_back a f h = λ i. record { word = record { start = h 1 (lit< tt) i; len = h 2 (lit< tt) i }; wire = h 4 (lit< tt) i }
 
 abbrev no_out : Out
 no_out = record { word = record { start = 0; len = 0 }; wire = 0 }
 
 outs-of : (a : List ℕ) (xs : List Out) (rest : List ℕ) → a ≡ encodes encode_out xs ++ rest → outs_of a (length xs) ≡ xs
-outs-of a xs rest e = list_of encode_out 5 (λ o. refl) out_from out_back no_out a xs rest e
+outs-of a xs rest e = list_of encode_out OUTPUT_WORDS (λ o. refl) out_from out_back no_out a xs rest e
 
 map_up : {A B : Type 0} (f : A → B) (g : ℕ → A) (i m : ℕ) → map f (up_from g i m) ≡ up_from (λ k. f (g k)) i m
 map_up f g i zero = refl
@@ -68,16 +69,16 @@ encode_outputs : (os : List Out) → encodes encode_out os ≡ encodes encode_ou
 encode_outputs [] = refl
 encode_outputs (o ∷ os) = ap₂ (λ (x y : List ℕ). x ++ y) (sym (encode-output o)) (encode_outputs os)
 
-outputs_are : (a : List ℕ) (n : ℕ) → a ≡ encodes encode_out (outs_of a n) ++ replicate (length a - n * 5) 0 → outputs_of a n ≡ map output_of (outs_of a n)
+outputs_are : (a : List ℕ) (n : ℕ) → a ≡ encodes encode_out (outs_of a n) ++ replicate (length a - n * OUTPUT_WORDS) 0 → outputs_of a n ≡ map output_of (outs_of a n)
 outputs_are a n cl =
     let os : List Output = map output_of (outs_of a n) in
     let k : length os ≡ n = length-map (outs_of a n) output_of ∙ list_length a n in
-    let e : a ≡ encodes encode_output os ++ replicate (length a - n * 5) 0 = cl ∙ ap (λ (l : List ℕ). l ++ replicate (length a - n * 5) 0) (encode_outputs (outs_of a n)) in
+    let e : a ≡ encodes encode_output os ++ replicate (length a - n * OUTPUT_WORDS) 0 = cl ∙ ap (λ (l : List ℕ). l ++ replicate (length a - n * OUTPUT_WORDS) 0) (encode_outputs (outs_of a n)) in
     ap (λ (m : ℕ). outputs_of a m) (sym k) ∙ outputs_of_area a os _ e
 
-clean_outputs : (a : List ℕ) (n : ℕ) → a ≡ encodes encode_out (outs_of a n) ++ replicate (length a - n * 5) 0 → a ≡ encodes encode_output (outputs_of a n) ++ replicate (length a - n * 5) 0
+clean_outputs : (a : List ℕ) (n : ℕ) → a ≡ encodes encode_out (outs_of a n) ++ replicate (length a - n * OUTPUT_WORDS) 0 → a ≡ encodes encode_output (outputs_of a n) ++ replicate (length a - n * OUTPUT_WORDS) 0
 clean_outputs a n cl =
-    cl ∙ ap (λ (l : List ℕ). l ++ replicate (length a - n * 5) 0) (encode_outputs (outs_of a n) ∙ ap (encodes encode_output) (sym (outputs_are a n cl)))
+    cl ∙ ap (λ (l : List ℕ). l ++ replicate (length a - n * OUTPUT_WORDS) 0) (encode_outputs (outs_of a n) ∙ ap (encodes encode_output) (sym (outputs_are a n cl)))
 
 -- the refusal where no wire is found
 pub undriven : {f : Option ℕ} {e : Refusal} → f ≡ None → Err e ≡ ok_or f NoDriver → e ≡ NoDriver
@@ -89,7 +90,7 @@ abbrev prefixed : List Out → Try (List Out) → Try (List Out)
 prefixed p r = and_then r (λ os. Ok (p ++ os))
 
 pub record Mid (b : Bool) (t : List ℕ) (es : List Entry) (a₀ a : List ℕ) (n j : ℕ) : Type 0 where
-  pub clean : a ≡ encodes encode_out (outs_of a n) ++ replicate (length a - n * 5) 0
+  pub clean : a ≡ encodes encode_out (outs_of a n) ++ replicate (length a - n * OUTPUT_WORDS) 0
   pub names : words_of a n ≡ words_of a₀ n
   pub rest : prefixed (take j (outs_of a n)) (resolve b t es (drop j (words_of a₀ n))) ≡ resolve b t es (words_of a₀ n)
 
@@ -97,13 +98,13 @@ nothing-first : (o : Try (List Out)) → prefixed [] o ≡ o
 nothing-first (Err e) = refl
 nothing-first (Ok x) = refl
 
-pub clean_outs : (a : List ℕ) (n : ℕ) → a ≡ encodes encode_word (words_of a n) ++ replicate (length a - n * 5) 0 → a ≡ encodes encode_out (outs_of a n) ++ replicate (length a - n * 5) 0
+pub clean_outs : (a : List ℕ) (n : ℕ) → a ≡ encodes encode_word (words_of a n) ++ replicate (length a - n * OUTPUT_WORDS) 0 → a ≡ encodes encode_out (outs_of a n) ++ replicate (length a - n * OUTPUT_WORDS) 0
 clean_outs a n h =
     let ws : List Word = words_of a n in
-    let e : a ≡ encodes encode_out (map plain ws) ++ replicate (length a - n * 5) 0 = h ∙ ap (λ (l : List ℕ). l ++ replicate (length a - n * 5) 0) (plain-encodes ws) in
+    let e : a ≡ encodes encode_out (map plain ws) ++ replicate (length a - n * OUTPUT_WORDS) 0 = h ∙ ap (λ (l : List ℕ). l ++ replicate (length a - n * OUTPUT_WORDS) 0) (plain-encodes ws) in
     let k : length (map plain ws) ≡ n = length-map ws plain ∙ length-words a n in
     let o : outs_of a n ≡ map plain ws = ap (λ (m : ℕ). outs_of a m) (sym k) ∙ outs-of a (map plain ws) _ e in
-    e ∙ ap (λ (l : List Out). encodes encode_out l ++ replicate (length a - n * 5) 0) (sym o)
+    e ∙ ap (λ (l : List Out). encodes encode_out l ++ replicate (length a - n * OUTPUT_WORDS) 0) (sym o)
 
 none_first : (b : Bool) (t : List ℕ) (es : List Entry) (w : Word) (ws : List Word) (p : List Out) → find b t w es ≡ None
     → Err NoDriver ≡ prefixed p (resolve b t es (w ∷ ws))
@@ -124,7 +125,7 @@ unfolding resolve
 end_first b t es p = refl
 
 module _ (b : Bool) (t : List ℕ) (es : List Entry) (a₀ : List ℕ) (n : ℕ) where
-  pub mid_start : a₀ ≡ encodes encode_word (words_of a₀ n) ++ replicate (length a₀ - n * 5) 0 → Mid b t es a₀ a₀ n 0
+  pub mid_start : a₀ ≡ encodes encode_word (words_of a₀ n) ++ replicate (length a₀ - n * OUTPUT_WORDS) 0 → Mid b t es a₀ a₀ n 0
   mid_start h = record { clean = clean_outs a₀ n h; names = refl; rest = nothing-first (resolve b t es (words_of a₀ n)) }
 
   in_at : (m : ℕ) (ws : List Word) (j : ℕ) (d : Word) → j < length ws → InText m ws → (get_or ws j d).start + (get_or ws j d).len ≤ m
@@ -154,15 +155,15 @@ module _ (b : Bool) (t : List ℕ) (es : List Entry) (a₀ : List ℕ) (n : ℕ)
         stop : Err NoDriver ≡ prefixed (take j (outs_of a n)) (resolve b t es (drop j (words_of a₀ n)))
         stop = rw here (none_first b t es (output_word a j) (drop (j + 1) (words_of a₀ n)) (take j (outs_of a n)) q)
 
-    module _ (x : ℕ) (q : find b t (output_word a j) es ≡ Some x) (a' : List ℕ) (put : a' ≡ stored a (j * 5) (encode_out (record { word = output_word a j; wire = x }))) (same : length a' ≡ length a) where
+    module _ (x : ℕ) (q : find b t (output_word a j) es ≡ Some x) (a' : List ℕ) (put : a' ≡ stored a (j * OUTPUT_WORDS) (encode_out (record { word = output_word a j; wire = x }))) (same : length a' ≡ length a) where
       o : Out
       o = record { word = output_word a j; wire = x }
 
-      now_is : a' ≡ encodes encode_out (set (outs_of a n) j o) ++ replicate (length a - n * 5) 0
+      now_is : a' ≡ encodes encode_out (set (outs_of a n) j o) ++ replicate (length a - n * OUTPUT_WORDS) 0
       unfolding o
       now_is =
-          put ∙ ap (λ (l : List ℕ). stored l (j * 5) (encode_out o)) mid.clean
-          ∙ set_record encode_out 5 (λ z. refl) (outs_of a n) o j (replicate (length a - n * 5) 0) (omega (arith, list_length a n))
+          put ∙ ap (λ (l : List ℕ). stored l (j * OUTPUT_WORDS) (encode_out o)) mid.clean
+          ∙ set_record encode_out OUTPUT_WORDS (λ z. refl) (outs_of a n) o j (replicate (length a - n * OUTPUT_WORDS) 0) (omega (arith, list_length a n))
 
       size : length (set (outs_of a n) j o) ≡ n
       size = length-set (outs_of a n) j o ∙ list_length a n
@@ -181,7 +182,7 @@ module _ (b : Bool) (t : List ℕ) (es : List Entry) (a₀ : List ℕ) (n : ℕ)
         rest = step_rest ∙ mid.rest;
       }
         where
-          room_same : length a - n * 5 ≡ length a' - n * 5
+          room_same : length a - n * OUTPUT_WORDS ≡ length a' - n * OUTPUT_WORDS
           room_same = omega (arith, same)
 
           same_name : o.word ≡ (get_or (outs_of a n) j no_out).word
@@ -212,7 +213,7 @@ module _ (b : Bool) (t : List ℕ) (es : List Entry) (a₀ : List ℕ) (n : ℕ)
       go : (ns : List BoolNode) (m : ℕ) → m ≡ 0 → Err NoOutputs ≡ closed ns (outs_of a m)
       go ns m q = rw q
 
-  pub answer_some : (a : List ℕ) → n * 5 ≤ length a → a ≡ encodes encode_out (outs_of a n) ++ replicate (length a - n * 5) 0 → (n ≡ 0 → ⊥) → resolve b t es (words_of a₀ n) ≡ Ok (outs_of a n) → Resolved b t es (words_of a₀ n) (Ok tt) a n
+  pub answer_some : (a : List ℕ) → n * OUTPUT_WORDS ≤ length a → a ≡ encodes encode_out (outs_of a n) ++ replicate (length a - n * OUTPUT_WORDS) 0 → (n ≡ 0 → ⊥) → resolve b t es (words_of a₀ n) ≡ Ok (outs_of a n) → Resolved b t es (words_of a₀ n) (Ok tt) a n
   unfolding closed
   answer_some a room cl nz e =
       record { is = λ ns. rw e (go ns n nz (outputs_are a n cl)); kept = record { room = room; clean = clean_outputs a n cl } }

@@ -2,7 +2,7 @@
 -- Assumes nothing.
 use Rattle.std.specs.Prelude.{Ok, Some}
 use Prim.Native.Nat.{ℕ, ◌+◌, ◌≤◌, ◌<◌}
-use mathlib.Core.Path.{◌≡◌, refl, sym, subst}
+use mathlib.Core.Path.{◌≡◌, sym, subst}
 use mathlib.Core.Bool.{Bool, true, false, cond, ◌&&◌}
 use mathlib.Core.List.{List, [], ◌∷◌, ◌++◌, map}
 use native.Mathlib.Nat.{zero-add}
@@ -21,7 +21,7 @@ use Rattle.circuit.proofs.Sitting.{Sits, AllSit, sit_more, circuit_checked, word
 use Rattle.text.specs.Words.{bytes_of}
 use Rattle.text.specs.declared.words.Word.{Word}
 use Rattle.names.specs.Names.{Entry, name_of, lookup}
-use Rattle.reading.specs.Reading.{Places, Held, State, find, driver, add_node, add_alias, add_named, input_node, add_input, each, Out, output_of, resolve, finish}
+use Rattle.reading.specs.Reading.{Places, Held, State, find, stretch_name, driver, add_node, add_alias, add_named, declared_input, add_input, each, Out, output_of, resolve, finish}
 use Rattle.reading.proofs.Made.{node_made, alias_made, named_made, driver_found}
 use Rattle.reading.proofs.Ended.{finish_yes}
 use Rattle.reading.proofs.States.{undefined_yes}
@@ -87,7 +87,7 @@ named-sound p w n h h' s k q =
 pub input_sound : (b : Bool) (t : List ℕ) (p : Places) (w : Word) (h h' : Held) → HeldSound h → add_input b t p w h ≡ Ok h' → HeldSound h'
 unfolding add_input
 input_sound b t p w h h' s q =
-    named-sound p w (input_node w) h h' (input_sits (length h.nodes) (input_node w) refl) s (undefined_yes (find b t w h.names) _ h' q).1
+    named-sound p w (declared_input w) h h' (input_sits (length h.nodes) (stretch_name w)) s (undefined_yes (find b t w h.names) _ h' q).1
 
 -- one word after the other keeps what each keeps
 pub each_keeps : {A B : Type 0} (P : A → Type 0) (f : B → A → Try A) → ((w : B) (a b : A) → P a → f w a ≡ Ok b → P b) → (ws : List B) (a b : A) → P a → each f ws a ≡ Ok b → P b

@@ -6,6 +6,7 @@ use Rattle.laws.specs.Stretches.{All}
 use Rattle.circuit.specs.Refusals.{Checked}
 use Rattle.circuit.specs.declared.records.BoolNode.{BoolNode}
 use Rattle.circuit.specs.declared.records.Sizes.{Sizes}
+use Rattle.circuit.specs.declared.records.TheConstants.{NAME_LEN, NODE_WORDS, OUTPUT_WORDS}
 use Rattle.circuit.specs.Refusals.{Try, and_then}
 use Rattle.circuit.specs.Records.{encode_node, nodes_of, encode_output, outputs_of}
 use Rattle.circuit.specs.Circuits.{Circuit}
@@ -14,6 +15,7 @@ use Rattle.names.specs.Names.{Entry}
 use Rattle.names.specs.Chains.{entries, Table}
 use Rattle.names.specs.declared.NameTable.{NameTable}
 use Rattle.names.specs.declared.records.TheConstants.{NAME_WORDS}
+use Rattle.reading.specs.declared.outputs.TheConstants.{START_AT, LEN_AT}
 use Rattle.reading.specs.declared.records.Counts.{Counts}
 use Rattle.reading.specs.declared.records.Reading.{Reading}
 use Rattle.reading.specs.Reading.{Places, Held, State, places_in, Out, resolve, closed}
@@ -39,8 +41,8 @@ held_of ns ms c = record { nodes = nodes_of ns c.nodes; names = entries ms c.nam
 
 -- the area of the nodes holds so many records, and zeros after them
 pub record NodesHold (ns : List ℕ) (n : ℕ) : Type 0 where
-  pub room : n * 9 ≤ length ns
-  pub clean : ns ≡ encodes encode_node (nodes_of ns n) ++ replicate (length ns - n * 9) 0
+  pub room : n * NODE_WORDS ≤ length ns
+  pub clean : ns ≡ encodes encode_node (nodes_of ns n) ++ replicate (length ns - n * NODE_WORDS) 0
 
 -- after a step: as many as it answers; on a refusal some
 abbrev pub NodesHoldAfter : List ℕ → Try ℕ → Type 0
@@ -59,7 +61,10 @@ NamedNodesHoldAfter t heads ns ms (Err e) = ((n : ℕ) × NodesHold ns n) × ((m
 
 -- the output words of an area: records whose wire is not known yet
 abbrev pub output_word : List ℕ → ℕ → Word
-output_word a j = record { start = get_or a (j * 5 + 1) 0; len = get_or a (j * 5 + 2) 0 }
+output_word a j = record {
+  start = get_or a (j * OUTPUT_WORDS + START_AT) 0;
+  len = get_or a (j * OUTPUT_WORDS + LEN_AT) 0;
+}
 
 abbrev pub words_of : List ℕ → ℕ → List Word
 words_of a n = up_from (output_word a) 0 n
@@ -72,8 +77,8 @@ InText n ws = All (λ (w : Word). w.start + w.len ≤ n) ws
 
 -- the area of the outputs holds so many words of the text, and zeros after them
 pub record WordsHold (t os : List ℕ) (n : ℕ) : Type 0 where
-  pub room : n * 5 ≤ length os
-  pub clean : os ≡ encodes encode_word (words_of os n) ++ replicate (length os - n * 5) 0
+  pub room : n * OUTPUT_WORDS ≤ length os
+  pub clean : os ≡ encodes encode_word (words_of os n) ++ replicate (length os - n * OUTPUT_WORDS) 0
   pub inside : InText (length t) (words_of os n)
 
 -- after a step: as many as it answers; on a refusal some
@@ -97,8 +102,8 @@ AreasHoldAfter t heads ns ms os (Err e) = ((n : ℕ) × NodesHold ns n) × ((m :
 
 -- the area of the outputs holds so many records with their wires, and zeros after them
 pub record OutputsHold (os : List ℕ) (n : ℕ) : Type 0 where
-  pub room : n * 5 ≤ length os
-  pub clean : os ≡ encodes encode_output (outputs_of os n) ++ replicate (length os - n * 5) 0
+  pub room : n * OUTPUT_WORDS ≤ length os
+  pub clean : os ≡ encodes encode_output (outputs_of os n) ++ replicate (length os - n * OUTPUT_WORDS) 0
 
 -- what has been read, in its areas
 abbrev pub state_of : List ℕ → List ℕ → List ℕ → Reading → State
@@ -112,11 +117,11 @@ NamesStep f ms n ms' r = outcome (entries ms') r ≡ f (capacity NAME_WORDS (len
 
 -- of nodes
 abbrev pub NodesStep : (ℕ → List BoolNode → Try (List BoolNode)) → List ℕ → ℕ → List ℕ → Try ℕ → Type 0
-NodesStep f ns n ns' r = outcome (nodes_of ns') r ≡ f (capacity 9 (length ns)) (nodes_of ns n)
+NodesStep f ns n ns' r = outcome (nodes_of ns') r ≡ f (capacity NODE_WORDS (length ns)) (nodes_of ns n)
 
 -- of output words
 abbrev pub WordsStep : (ℕ → List Word → Try (List Word)) → List ℕ → ℕ → List ℕ → Try ℕ → Type 0
-WordsStep f os n os' r = outcome (words_of os') r ≡ f (capacity 5 (length os)) (words_of os n)
+WordsStep f os n os' r = outcome (words_of os') r ≡ f (capacity OUTPUT_WORDS (length os)) (words_of os n)
 
 -- of nodes and names, whatever area the outputs have
 abbrev pub HeldStep : (Places → Held → Try Held) → List ℕ → List ℕ → Counts → List ℕ → List ℕ → Try Counts → Type 0
@@ -130,7 +135,7 @@ StateStep f ns ms os r ns' ms' os' r' = outcome (state_of ns' ms' os') r' ≡ f 
 
 -- the outputs of an area, with their wires
 abbrev pub out_at : List ℕ → ℕ → Out
-out_at a j = record { word = output_word a j; wire = get_or a (j * 5 + 4) 0 }
+out_at a j = record { word = output_word a j; wire = get_or a (j * OUTPUT_WORDS + NAME_LEN) 0 }
 
 abbrev pub outs_of : List ℕ → ℕ → List Out
 outs_of a n = up_from (out_at a) 0 n
@@ -140,7 +145,7 @@ encode_out o = 1 ∷ o.word.start ∷ o.word.len ∷ 0 ∷ o.wire ∷ []
 
 -- record j of an area with the wire that was found
 abbrev pub put_wire : List ℕ → ℕ → Option ℕ → List ℕ
-put_wire a j (Some x) = stored a (j * 5) (encode_out (record { word = output_word a j; wire = x }))
+put_wire a j (Some x) = stored a (j * OUTPUT_WORDS) (encode_out (record { word = output_word a j; wire = x }))
 put_wire a j None = a
 
 -- so many nodes and outputs of the areas

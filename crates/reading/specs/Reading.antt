@@ -1,16 +1,18 @@
 -- What the readers of joined texts share: text faults, the circuit and the names so far, a record more, the outputs at the end.
 -- Assumes nothing.
-use Rattle.std.specs.Prelude.{ℕ, ◌+◌, Bool, false, cond, not, ◌&&◌, List, [], ◌∷◌, ◌++◌, map, length, ltb, leb, None, Option, Some, Ok, Err}
+use Rattle.std.specs.Prelude.{ℕ, Bool, cond, not, ◌&&◌, List, [], ◌∷◌, ◌++◌, map, length, ltb, leb, None, Option, Some, Ok, Err}
 use Rattle.laws.specs.Areas.{capacity}
 use Rattle.laws.specs.Stretches.{same_bytes}
 use Rattle.circuit.specs.declared.refusals.Refusal.TheVariants.{TextTooLong, NotAscii, NoRoom, DefinedBefore, NoDriver, NoOutputs}
 use Rattle.circuit.specs.Refusals.{Checked}
-use Rattle.circuit.specs.declared.records.BoolWire.TheVariants.{Const}
+use Rattle.circuit.specs.declared.records.BoolWire.TheVariants.{Node}
+use Rattle.circuit.specs.declared.records.Name.{Name}
 use Rattle.circuit.specs.declared.records.Name.TheVariants.{Stretch}
 use Rattle.circuit.specs.declared.records.BoolNode.{BoolNode}
 use Rattle.circuit.specs.declared.records.Output.{Output}
+use Rattle.circuit.specs.declared.records.TheConstants.{NODE_WORDS, OUTPUT_WORDS}
 use Rattle.circuit.specs.Refusals.{refuse_if, first_fault, Try, and_then, need}
-use Rattle.circuit.specs.Records.{wire_of}
+use Rattle.circuit.specs.Records.{wire_word, wire_of, input_node}
 use Rattle.circuit.specs.Circuits.{Circuit}
 use Rattle.text.specs.Bytes.{is_ascii}
 use Rattle.text.specs.Words.{bytes_of}
@@ -38,7 +40,7 @@ pub record Places : Type 0 where
 
 -- those of areas of so many words
 abbrev pub places_in : ℕ → ℕ → ℕ → Places
-places_in n m o = record { nodes = capacity 9 n; names = capacity NAME_WORDS m; outputs = capacity 5 o }
+places_in n m o = record { nodes = capacity NODE_WORDS n; names = capacity NAME_WORDS m; outputs = capacity OUTPUT_WORDS o }
 
 -- the nodes so far, and the names defined, the newest first
 pub record Held : Type 0 where
@@ -93,17 +95,28 @@ add_node room n ns = if_room ns room (Ok (ns ++ (n ∷ [])))
 unfoldable pub add_alias : Places → Word → ℕ → Held → Try Held
 add_alias p w wire h = with_names h.nodes (add_name p.names w wire h.names)
 
+-- the word of the wire of the node that comes next
+abbrev pub next_wire : List BoolNode → ℕ
+next_wire ns = wire_word (Node (record { 0 = length ns }))
+
 -- a node and its name
 unfoldable pub add_named : Places → Word → BoolNode → Held → Try Held
-add_named p w n h = and_then (add_node p.nodes n h.nodes) (λ ns. with_names ns (add_name p.names w (length h.nodes + 2) h.names))
+add_named p w n h =
+    and_then (add_node p.nodes n h.nodes)
+    (λ ns. with_names ns (add_name p.names w (next_wire h.nodes) h.names))
 
--- "The stretch is the place where the node is defined"
-abbrev pub input_node : Word → BoolNode
-input_node w = record { kind = 1; count = 0; table = 0; name = Stretch w.start w.len; first = Const false; second = Const false }
+-- a node has its name where it is defined in the joined text
+abbrev pub stretch_name : Word → Name
+stretch_name w = Stretch w.start w.len
 
--- a declared input: "4, else an input node"
+-- the node of an input that is declared at a word
+abbrev pub declared_input : Word → BoolNode
+declared_input w = input_node (stretch_name w)
+
+-- a declared input, unless its name is defined
 unfoldable pub add_input : Bool → List ℕ → Places → Word → Held → Try Held
-add_input constants t p w h = unless_defined (find constants t w h.names) (add_named p w (input_node w) h)
+add_input constants t p w h =
+    unless_defined (find constants t w h.names) (add_named p w (declared_input w) h)
 
 -- "In BLIF and BENCH an output's place is taken when its word is read"
 unfoldable pub add_output : ℕ → Word → List Word → Try (List Word)
@@ -122,7 +135,7 @@ pub record Out : Type 0 where
   pub wire : ℕ
 
 abbrev pub output_of : Out → Output
-output_of o = record { name = Stretch o.word.start o.word.len; wire = wire_of o.wire }
+output_of o = record { name = stretch_name o.word; wire = wire_of o.wire }
 
 unfoldable pub resolve : Bool → List ℕ → List Entry → List Word → Try (List Out)
 resolve constants t es [] = Ok []

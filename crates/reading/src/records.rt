@@ -1,28 +1,28 @@
 // The nodes and names of a circuit as it is read: a record more, or the refusal.
-ghost use Rattle.std.specs.Prelude.{◌≡◌, ◌+◌, ◌≤◌, ◌<◌, ◌^◌, length};
+ghost use Rattle.std.specs.Prelude.{◌≡◌, ◌+◌, ◌≤◌, length};
 ghost use Rattle.std.specs.Result.{result_unwrap_or};
-ghost use Rattle.circuit.specs.Records.{wire_word};
-ghost use Rattle.circuit.specs.declared.records.Name.TheVariants.{Stretch};
+ghost use Rattle.laws.specs.Stretches.{All};
+ghost use Rattle.circuit.specs.Records.{HasWord};
 ghost use Rattle.names.specs.Chains.{Table};
-ghost use Rattle.reading.specs.Reading.{add_name, add_node, add_named, input_node, add_input};
+ghost use Rattle.reading.specs.Reading.{add_name, add_node, add_named, stretch_name, add_input};
 ghost use Rattle.reading.specs.Holding.{NodesHold, NamedNodesHold, NamedNodesHoldAfter, NamesStep, NodesStep, HeldStep};
 
 use crate::format::Names;
 use circuit::areas::{put_node, records_in};
-use circuit::records::{BoolNode, Name};
+use circuit::records::{BoolNode, NODE_WORDS, Name, NodeNumber, node_word};
 use circuit::refusals::Refusal;
 use names::NameTable;
 use names::records::NAME_WORDS;
 use text::words::Word;
 
-// How many nodes and names there are.
+/// How many nodes and names there are.
 #[derive(Clone, Copy)]
 pub struct Counts {
     pub nodes: usize,
     pub names: usize,
 }
 
-// What has been read: how many nodes, names and outputs.
+/// What has been read: how many nodes, names and outputs.
 #[derive(Clone, Copy)]
 pub struct Reading {
     pub counts: Counts,
@@ -51,23 +51,22 @@ pub fn add_name(
     Ok(count + 1)
 }
 
-// A node more: how many there are then.
+/// A node more: how many there are then. `NoRoom` if the area has no place for it.
 #[tactic(auto, using(crate::proofs::Steps::node_full, crate::proofs::Storing::room_of))]
 pub fn add_node(node: BoolNode, count: usize, nodes: &mut [usize]) -> Result<usize, Refusal>
     requires area { NodesHold nodes.old count }
-    requires wires_fit { (wire_word node.first < 2 ^ 64) × (wire_word node.second < 2 ^ 64) }
+    requires wires_fit { All HasWord node.wires }
     ensures area { NodesHold nodes.new (result_unwrap_or result count) }
     ensures step { NodesStep (λ room. add_node room node) nodes.old count nodes.new result }
 {
-    if records_in(nodes.len(), 9) <= count {
+    if records_in(nodes.len(), NODE_WORDS) <= count {
         return Err(Refusal::NoRoom);
     }
     put_node(nodes, count, node);
     Ok(count + 1)
 }
 
-// A node and its name.
-// The areas travel one by one, with `NamedNodesHold`: in a struct over them each function up to the reader would promise that its references are still the same ones.
+/// A node and its name: how many nodes and names there are then.
 #[tactic(auto, using(circuit::proofs::Codes::length_nodes), unfolding(crate::specs::Reading::add_named))]
 pub fn add_named(
     text: &[u8],
@@ -80,18 +79,19 @@ pub fn add_named(
 ) -> Result<Counts, Refusal>
     requires areas { NamedNodesHold text.now heads.old nodes.old names.old counts }
     requires word_in_text { word.start + word.len ≤ length text.now }
-    requires wires_fit { (wire_word node.first < 2 ^ 64) × (wire_word node.second < 2 ^ 64) }
+    requires wires_fit { All HasWord node.wires }
     ensures areas { NamedNodesHoldAfter text.now heads.new nodes.new names.new result }
     ensures step { HeldStep (λ p. add_named p word node) nodes.old names.old counts nodes.new names.new result }
 {
     let n = add_node(node, counts.nodes, nodes)?;
-    let m = add_name(text, word, counts.nodes + 2, counts.names, heads, names)?;
+    let wire = node_word(NodeNumber(counts.nodes));
+    let m = add_name(text, word, wire, counts.names, heads, names)?;
     Ok(Counts { nodes: n, names: m })
 }
 
-// The name that stands where a word does. A function, since neither type is this crate's, as `From` would need.
+/// The name that stands where a word does. A function, since neither type is this crate's, as `From` would need.
 pub fn stretch_name(word: Word) -> Name
-    ensures { result ≡ Stretch word.start word.len }
+    ensures { result ≡ stretch_name word }
 {
     Name::Stretch {
         start: word.start,
@@ -99,15 +99,8 @@ pub fn stretch_name(word: Word) -> Name
     }
 }
 
-// The node of a declared input.
-pub fn input_node(word: Word) -> BoolNode
-    ensures { result ≡ input_node word }
-{
-    BoolNode::input(stretch_name(word))
-}
-
-// A declared input: 4, 3.
-#[tactic(auto, unfolding(crate::specs::Reading::add_input))]
+/// A declared input and its name: `DefinedBefore`, then `NoRoom`.
+#[tactic(auto, using(circuit::proofs::Fitting::input_fits), unfolding(crate::specs::Reading::add_input))]
 pub fn add_input<F: Names>(
     text: &[u8],
     word: Word,
@@ -130,6 +123,9 @@ pub fn add_input<F: Names>(
     };
     match F::find_wire(&table, word) {
         Some(_) => Err(Refusal::DefinedBefore),
-        None => add_named(text, word, input_node(word), counts, heads, nodes, names),
+        None => {
+            let node = BoolNode::input(stretch_name(word));
+            add_named(text, word, node, counts, heads, nodes, names)
+        }
     }
 }

@@ -1,3 +1,4 @@
+use Rattle.circuit.specs.declared.records.TheConstants.{OUTPUT_WORDS}
 use native.Mathlib.Omega.{arith}
 use lib.Dec.{lit<}
 use lib.ListN.{length}
@@ -12,7 +13,7 @@ returns-clause-area c =
     let hold = c.requires.area in
     let l = more_words old c.put.new.area c.args.count c.args.word c.put.ensures c.put.auto.area hold.clean in
     record {
-      room = omega (arith, c.put.auto.area, room_of 5 (length old) c.args.count (lit< tt) (omega (arith, c.records_in.ensures, c.if-records_in-count.false)));
+      room = omega (arith, c.put.auto.area, room_of OUTPUT_WORDS (length old) c.args.count (lit< tt) (omega (arith, c.records_in.ensures, c.if-records_in-count.false)));
       clean = more_words_clean old c.put.new.area c.args.count c.args.word c.put.ensures c.put.auto.area hold.clean;
       inside = in_more (length c.args.text.now) (words_of old c.args.count) _ c.args.word l hold.inside c.requires.word_in_text;
     }

@@ -1,0 +1,37 @@
+-- The wires of a node fit in the words of an area where those that it was made of do.
+-- Assumes nothing.
+use Rattle.std.proofs.Common.{ℕ, zero, suc, ◌<◌, ◌≡◌, List, [], ◌∷◌, get_or, arith}
+use Rattle.laws.specs.Areas.{up_from}
+use Rattle.laws.specs.Stretches.{All}
+use Rattle.circuit.specs.declared.records.BoolWire.{BoolWire}
+use Rattle.circuit.specs.declared.records.BoolNode.{BoolNode}
+use Rattle.circuit.specs.declared.records.Name.{Name}
+use Rattle.circuit.specs.declared.records.TheConstants.{WIRES}
+use Rattle.circuit.specs.Records.{no_wire, places, HasWord, wire_of, input_node, cell_node}
+use Rattle.circuit.proofs.Codes.{wire_word_back}
+
+-- a wire that comes from a word has that word
+pub word_fits : (w : BoolWire) (x : ℕ) → w ≡ wire_of x → x < 18446744073709551616 → HasWord w
+word_fits w x e h = rw e (omega (arith, wire_word_back x))
+
+all_up : (f : ℕ → BoolWire) → ((k : ℕ) → HasWord (f k)) → (i m : ℕ) → All HasWord (up_from f i m)
+all_up f h i zero = tt
+all_up f h i (suc m) = (h i, all_up f h (suc i) m)
+
+each_fits : (ws : List BoolWire) → All HasWord ws → (k : ℕ) → HasWord (get_or ws k no_wire)
+each_fits [] h k = omega arith
+each_fits (w ∷ ws) h zero = h.0
+each_fits (w ∷ ws) h (suc k) = each_fits ws h.1 k
+
+pub places_fit : (ws : List BoolWire) → All HasWord ws → All HasWord (places ws)
+unfolding places
+places_fit ws h = all_up (λ k. get_or ws k no_wire) (each_fits ws h) 0 WIRES
+
+-- an input has none but constant 0
+pub input_fits : (n : BoolNode) (name : Name) → n ≡ input_node name → All HasWord n.wires
+unfolding input_node
+input_fits n name e = rw e (places_fit [] tt)
+
+pub cell_fits : (n : BoolNode) (name : Name) (table : ℕ) (ws : List BoolWire) → n ≡ cell_node name table ws → All HasWord ws → All HasWord n.wires
+unfolding cell_node
+cell_fits n name table ws e h = rw e (places_fit ws h)
