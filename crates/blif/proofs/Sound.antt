@@ -9,10 +9,11 @@ use native.Mathlib.Omega.{arith}
 use lib.ListN.{length}
 use lib.Dec.{eqb}
 use Rattle.laws.specs.Stretches.{All}
+use Rattle.circuit.specs.declared.records.TheConstants.{WIRES}
 use Rattle.circuit.specs.Check.{check_circuit}
 use Rattle.circuit.specs.Circuits.{Circuit}
 use Rattle.circuit.proofs.Tries.{no_yes, yes_same, then_yes}
-use Rattle.circuit.proofs.Sitting.{word_below, one_sits, two_sits}
+use Rattle.circuit.proofs.Words.{word_cell_sits}
 use Rattle.text.specs.Lines.{lines, line_words}
 use Rattle.text.specs.Joining.{joined_text}
 use Rattle.text.specs.declared.words.Word.{Word}
@@ -21,10 +22,11 @@ use Rattle.cover.specs.declared.directives.Directive.TheVariants.{Ignored, Input
 use Rattle.cover.specs.Cover.{last_of}
 use Rattle.cover.specs.Directives.{dotted, directive_of, rest_of, rows_of}
 use Rattle.cover.proofs.TableLaws.{cover-fits}
-use Rattle.reading.specs.Reading.{Places, places_in, Held, State, start, find, driver, add_alias, add_named, add_input, add_output, each}
+use Rattle.reading.specs.Reading.{Places, places_in, Held, State, start, find, stretch_name, driver, add_alias, add_input, add_output, each}
 use Rattle.reading.proofs.Sound.{HeldSound, start-sound, driver_below, alias_sound, named-sound, input_sound, each_keeps, finish-sound, wires_out}
-use Rattle.blif.specs.Blif.{drivers, input_names, cell_node, gate, names_line, directive_step, line_step, row_next, read_lines, blif}
+use Rattle.blif.specs.Blif.{drivers, input_names, gate_cell, cell, gate, names_line, directive_step, line_step, row_next, read_lines, blif}
 use Rattle.reading.proofs.States.{held_yes, outputs-yes}
+use Rattle.blif.specs.declared.gates.TheConstants.{BUFFER}
 use Rattle.blif.proofs.Accepted.{names-none, names-yes, line_yes, text_yes}
 
 -- ---- gates
@@ -43,21 +45,21 @@ drivers_below t h s (w ∷ ws) xs q =
     subst (λ (l : List ℕ). Driven (length h.nodes) (w ∷ ws) l) (yes_same r.2)
     (record { count = ap suc d.count; below = (driver_below (length h.nodes) false t w h.names x.0 s.names x.1, d.below) })
 
-gate-sound : (p : Places) (out : Word) (xs : List ℕ) (table : ℕ) (h h' : Held) → HeldSound h → All (λ x. x < length h.nodes + 2) xs → length xs ≤ 2 → table < 2 ^ 2 ^ length xs
+cell-sound : (p : Places) (out : Word) (xs : List ℕ) (table : ℕ) (h h' : Held) → HeldSound h → All (λ x. x < length h.nodes + 2) xs → 1 ≤ length xs → length xs ≤ WIRES → table < 2 ^ 2 ^ length xs
+    → cell p out xs table h ≡ Ok h' → HeldSound h'
+cell-sound p out xs table h h' s below some few fits q =
+    named-sound p out (gate_cell out xs table) h h' (word_cell_sits (length h.nodes) (stretch_name out) table xs some few fits below) s q
+
+gate-sound : (p : Places) (out : Word) (xs : List ℕ) (table : ℕ) (h h' : Held) → HeldSound h → All (λ x. x < length h.nodes + 2) xs → length xs ≤ WIRES → table < 2 ^ 2 ^ length xs
     → gate p out xs table h ≡ Ok h' → HeldSound h'
 unfolding gate
 gate-sound p out [] table h h' s below few fits q = alias_sound p out table h h' (omega arith) s q
-gate-sound p out (x ∷ []) table h h' s below few fits q = go (eqb table 2) q
+gate-sound p out (x ∷ []) table h h' s below few fits q = go (eqb table BUFFER) q
   where
-    go : (b : Bool) → cond b (add_alias p out x h) (add_named p out (cell_node out (x ∷ []) table) h) ≡ Ok h' → HeldSound h'
+    go : (b : Bool) → cond b (add_alias p out x h) (cell p out (x ∷ []) table h) ≡ Ok h' → HeldSound h'
     go true r = alias_sound p out x h h' below.0 s r
-    go false r =
-        named-sound p out (cell_node out (x ∷ []) table) h h'
-        (one_sits (length h.nodes) (cell_node out (x ∷ []) table) refl (word_below (length h.nodes) x below.0) refl fits) s r
-gate-sound p out (x ∷ y ∷ []) table h h' s below few fits q =
-    named-sound p out (cell_node out (x ∷ y ∷ []) table) h h'
-    (two_sits (length h.nodes) (cell_node out (x ∷ y ∷ []) table) refl (word_below (length h.nodes) x below.0) refl fits (word_below (length h.nodes) y below.1.0)) s q
-gate-sound p out (x ∷ y ∷ z ∷ zs) table h h' s below few fits q = absurd (omega arith)
+    go false r = cell-sound p out (x ∷ []) table h h' s below (omega arith) few fits r
+gate-sound p out (x ∷ y ∷ ys) table h h' s below few fits q = cell-sound p out (x ∷ y ∷ ys) table h h' s below (omega arith) few fits q
 
 names-sound : (t : List ℕ) (p : Places) (ws : List Word) (rows : List (List Word)) (h h' : Held) → HeldSound h → names_line t p ws rows h ≡ Ok h' → HeldSound h'
 names-sound t p [] rows h h' s q = absurd (names-none t p rows h h' q)

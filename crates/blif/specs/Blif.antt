@@ -1,11 +1,10 @@
 -- The BLIF reader: a joined text's lines, one after the other, with the circuit, the names and the output words so far.
 -- Assumes nothing.
-use Rattle.std.specs.Prelude.{ℕ, Bool, true, false, cond, List, [], ◌∷◌, length, get_or, eqb, leb, Err, None, Ok, Option, Some}
+use Rattle.std.specs.Prelude.{ℕ, Bool, true, false, cond, List, [], ◌∷◌, map, length, eqb, leb, Err, None, Ok, Option, Some}
 use Rattle.circuit.specs.declared.refusals.Refusal.TheVariants.{WrongCount, BadRow, Unknown, Malformed}
 use Rattle.circuit.specs.declared.records.BoolNode.{BoolNode}
-use Rattle.circuit.specs.declared.records.Name.TheVariants.{Stretch}
 use Rattle.circuit.specs.Refusals.{Try, and_then, need}
-use Rattle.circuit.specs.Records.{wire_of}
+use Rattle.circuit.specs.Records.{wire_of, cell_node}
 use Rattle.circuit.specs.Circuits.{Circuit}
 use Rattle.text.specs.Lines.{lines, line_words}
 use Rattle.text.specs.declared.words.Word.{Word}
@@ -14,9 +13,10 @@ use Rattle.cover.specs.declared.directives.Directive.{Directive}
 use Rattle.cover.specs.declared.directives.Directive.TheVariants.{Ignored, Inputs, Outputs, Names, Other}
 use Rattle.cover.specs.Cover.{last_of, cover}
 use Rattle.cover.specs.Directives.{dotted, directive_of, rest_of, rows_of, rows_after}
-use Rattle.reading.specs.Reading.{Places, Held, State, start, find, unless_defined, driver, add_alias, add_named, add_input, add_output, each, finish}
+use Rattle.reading.specs.Reading.{Places, Held, State, start, find, unless_defined, driver, stretch_name, add_alias, add_named, add_input, add_output, each, finish}
 use Rattle.reading.specs.States.{with_held, with_outputs}
 use Rattle.reading.specs.Areas.{read_text}
+use Rattle.blif.specs.declared.gates.TheConstants.{BUFFER}
 
 -- ---- gates
 
@@ -30,23 +30,17 @@ unfoldable pub input_names : Word → List Word → List Word
 input_names w [] = []
 input_names w (x ∷ xs) = w ∷ input_names x xs
 
-abbrev pub cell_node : Word → List ℕ → ℕ → BoolNode
-cell_node w xs table = record {
-  kind = 2;
-  count = length xs;
-  table = table;
-  name = Stretch w.start w.len;
-  first = wire_of (get_or xs 0 0);
-  second = wire_of (get_or xs 1 0);
-}
+-- the cell of a gate that is named by its output word, by the words of its wires
+abbrev pub gate_cell : Word → List ℕ → ℕ → BoolNode
+gate_cell out xs table = cell_node (stretch_name out) table (map wire_of xs)
 
 abbrev pub cell : Places → Word → List ℕ → ℕ → Held → Try Held
-cell p out xs table h = add_named p out (cell_node out xs table) h
+cell p out xs table h = add_named p out (gate_cell out xs table) h
 
--- "No inputs gives a constant wire, one input with table 2 an alias: neither makes a node."
+-- A gate without inputs is a constant wire, and one that gives its one input is another name of that wire: neither makes a node.
 unfoldable pub gate : Places → Word → List ℕ → ℕ → Held → Try Held
 gate p out [] table h = add_alias p out table h
-gate p out (x ∷ []) table h = cond (eqb table 2) (add_alias p out x h) (cell p out (x ∷ []) table h)
+gate p out (x ∷ []) table h = cond (eqb table BUFFER) (add_alias p out x h) (cell p out (x ∷ []) table h)
 gate p out (x ∷ y ∷ ys) table h = cell p out (x ∷ y ∷ ys) table h
 
 -- a gate that passed its checks: its output word, its wires and its table

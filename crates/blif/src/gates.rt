@@ -1,13 +1,15 @@
 // A `.names` line: its words, its rows, and the constant, alias or cell that they give.
 ghost use Rattle.std.specs.Prelude.{◌≡◌, ◌+◌, ◌≤◌, length, Some, IfOk};
 ghost use Rattle.std.specs.Result.{result_unwrap_or};
+ghost use Rattle.laws.specs.Stretches.{All};
+ghost use Rattle.circuit.specs.Records.{HasWord};
 ghost use Rattle.text.specs.Lines.{line_words};
 ghost use Rattle.names.specs.Chains.{Table};
 ghost use Rattle.cover.specs.Gates.{listed, InputsFit};
 ghost use Rattle.cover.specs.Rows.{rows_from};
 ghost use Rattle.reading.specs.Reading.{add_name};
 ghost use Rattle.reading.specs.Holding.{outcome, entries_of, NamedNodesHold, NamedNodesHoldAfter, NamesStep, HeldStep};
-ghost use Rattle.blif.specs.Blif.{cell_node, drivers, gate, plan, names_line};
+ghost use Rattle.blif.specs.Blif.{gate_cell, drivers, gate, plan, names_line};
 ghost use Rattle.blif.specs.Holding.{driver_of, PlanIs};
 
 use circuit::records::{BoolNode, BoolWire};
@@ -19,8 +21,8 @@ use names::NameTable;
 use reading::records::{Counts, add_name, add_named, stretch_name};
 use text::words::Word;
 
-// The table of one input whose value is the input's.
-const BUFFER: usize = 2;
+/// The table of one input whose value is the input's.
+pub const BUFFER: usize = 2;
 
 // A gate that passed its checks: its output word, the wires of its inputs, and its table.
 #[derive(Clone, Copy)]
@@ -97,26 +99,24 @@ pub fn add_alias(
     })
 }
 
-// The cell of a gate. By fields: a constructor would take the same five words by place.
-pub fn cell_node(p: Planned) -> BoolNode
-    ensures { result ≡ cell_node p.out (listed p.wires) p.table }
+/// The cell of a gate.
+#[tactic(auto, using(circuit::proofs::Words::cell_fits, circuit::proofs::Words::word_fits))]
+pub fn gate_cell(p: Planned) -> BoolNode
+    ensures cell { result ≡ gate_cell p.out (listed p.wires) p.table }
+    ensures wires_fit { All HasWord result.wires }
 {
-    let (first, second) = match p.wires {
-        Inputs::Zero => (0, 0),
-        Inputs::One(first) => (first, 0),
-        Inputs::Two(first, second) => (first, second),
-    };
-    BoolNode {
-        kind: 2,
-        count: p.wires.count(),
-        table: p.table,
-        name: stretch_name(p.out),
-        first: BoolWire::from(first),
-        second: BoolWire::from(second),
+    let name = stretch_name(p.out);
+    match p.wires {
+        Inputs::Zero => BoolNode::cell(name, p.table, &[]),
+        Inputs::One(first) => BoolNode::cell(name, p.table, &[BoolWire::from(first)]),
+        Inputs::Two(first, second) => {
+            let wires = [BoolWire::from(first), BoolWire::from(second)];
+            BoolNode::cell(name, p.table, &wires)
+        }
     }
 }
 
-// A gate that passed its checks: a constant, an alias or a cell.
+/// A gate that passed its checks: a constant, an alias or a cell, and its name.
 #[tactic(auto, unfolding(crate::specs::Blif::gate, reading::specs::Reading::add_alias))]
 pub fn put_gate(
     text: &[u8],
@@ -135,7 +135,7 @@ pub fn put_gate(
     match (p.wires, p.table) {
         (Inputs::Zero, wire) => add_alias(text, p.out, wire, counts, heads, names),
         (Inputs::One(wire), BUFFER) => add_alias(text, p.out, wire, counts, heads, names),
-        _ => add_named(text, p.out, cell_node(p), counts, heads, nodes, names),
+        _ => add_named(text, p.out, gate_cell(p), counts, heads, nodes, names),
     }
 }
 

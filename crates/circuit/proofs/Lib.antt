@@ -2,9 +2,9 @@ pub mod Places
 pub mod Rules
 pub mod Codes
 pub mod Checks
-pub mod Fitting
 pub mod Circuits
 pub mod Sitting
+pub mod Words
 pub mod Tries
 pub mod Scans
 pub mod Examples

@@ -100,7 +100,7 @@ pub fn stretch_name(word: Word) -> Name
 }
 
 /// A declared input and its name: `DefinedBefore`, then `NoRoom`.
-#[tactic(auto, using(circuit::proofs::Fitting::input_fits), unfolding(crate::specs::Reading::add_input))]
+#[tactic(auto, using(circuit::proofs::Words::input_fits), unfolding(crate::specs::Reading::add_input))]
 pub fn add_input<F: Names>(
     text: &[u8],
     word: Word,

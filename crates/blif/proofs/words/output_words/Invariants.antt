@@ -1,6 +1,7 @@
 use mathlib.Core.Path.{◌≡◌}
 use lib.ListN.{length}
 use Rattle.laws.specs.Areas.{capacity}
+use Rattle.circuit.specs.declared.records.TheConstants.{OUTPUT_WORDS}
 use Rattle.laws.specs.Stretches.{All}
 use Rattle.text.specs.Words.{IsWord}
 use Rattle.text.specs.Iterators.{words_left}
@@ -10,7 +11,7 @@ use Rattle.blif.proofs.words.output_words.Given as goal
 
 abbrev pub invariant-loop-word : goal.invariant-loop-word
 invariant-loop-word l =
-    let step = add_output (capacity 5 (length l.initial.outputs)) in
+    let step = add_output (capacity OUTPUT_WORDS (length l.initial.outputs)) in
     (goal.iterator-loop-word).can_next l.word-iterator
     × (goal.iterator-loop-word).is_finite l.word-iterator
     × (length l.outputs ≡ length l.initial.outputs)

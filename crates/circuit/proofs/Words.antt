@@ -1,6 +1,7 @@
--- The wires of a node fit in the words of an area where those that it was made of do.
+-- Nodes by the words of their wires: they fit in an area, and a cell made of the words of earlier nodes keeps the rules.
 -- Assumes nothing.
-use Rattle.std.proofs.Common.{ℕ, zero, suc, ◌<◌, ◌≡◌, List, [], ◌∷◌, get_or, arith}
+use Rattle.std.proofs.Common.{ℕ, zero, suc, ◌+◌, ◌^◌, ◌<◌, ◌≤◌, ◌≡◌, false, List, [], ◌∷◌, map, length, get_or, refl, arith}
+use Rattle.std.proofs.lemmas.List.{length-map}
 use Rattle.laws.specs.Areas.{up_from}
 use Rattle.laws.specs.Stretches.{All}
 use Rattle.circuit.specs.declared.records.BoolWire.{BoolWire}
@@ -8,7 +9,9 @@ use Rattle.circuit.specs.declared.records.BoolNode.{BoolNode}
 use Rattle.circuit.specs.declared.records.Name.{Name}
 use Rattle.circuit.specs.declared.records.TheConstants.{WIRES}
 use Rattle.circuit.specs.Records.{no_wire, places, HasWord, wire_of, input_node, cell_node}
+use Rattle.circuit.specs.Check.{not_below, some_not_below}
 use Rattle.circuit.proofs.Codes.{wire_word_back}
+use Rattle.circuit.proofs.Sitting.{Sits, word_below, cell_sits}
 
 -- a wire that comes from a word has that word
 pub word_fits : (w : BoolWire) (x : ℕ) → w ≡ wire_of x → x < 18446744073709551616 → HasWord w
@@ -35,3 +38,15 @@ input_fits n name e = rw e (places_fit [] tt)
 pub cell_fits : (n : BoolNode) (name : Name) (table : ℕ) (ws : List BoolWire) → n ≡ cell_node name table ws → All HasWord ws → All HasWord n.wires
 unfolding cell_node
 cell_fits n name table ws e h = rw e (places_fit ws h)
+
+-- ---- a cell made of words
+
+pub words_below : (m : ℕ) (xs : List ℕ) → All (λ x. x < m + 2) xs → some_not_below m (map wire_of xs) ≡ false
+words_below m [] h = refl
+words_below m (x ∷ xs) h = rw (word_below m x h.0) (words_below m xs h.1)
+
+pub word_cell_sits : (i : ℕ) (name : Name) (t : ℕ) (xs : List ℕ) → 1 ≤ length xs → length xs ≤ WIRES → t < 2 ^ 2 ^ length xs → All (λ x. x < i + 2) xs
+    → Sits i (cell_node name t (map wire_of xs))
+word_cell_sits i name t xs few many fits below =
+    let l : length (map wire_of xs) ≡ length xs = length-map xs wire_of in
+    cell_sits i name t (map wire_of xs) (omega (arith, l)) (omega (arith, l)) (rw l fits) (words_below i xs below)
