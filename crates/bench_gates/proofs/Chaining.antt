@@ -17,11 +17,12 @@ use Rattle.laws.specs.Stretches.{All}
 use Rattle.circuit.specs.declared.refusals.Refusal.{Refusal}
 use Rattle.circuit.specs.declared.records.BoolNode.{BoolNode}
 use Rattle.circuit.specs.Refusals.{Try, and_then}
-use Rattle.circuit.specs.Records.{nodes_of}
+use Rattle.circuit.specs.declared.records.BoolWire.TheVariants.{Node}
+use Rattle.circuit.specs.Records.{nodes_of, wire_word}
 use Rattle.circuit.proofs.Codes.{length_nodes}
 use Rattle.text.specs.declared.words.Word.{Word}
 use Rattle.names.specs.Names.{Entry}
-use Rattle.reading.specs.Reading.{Places, places_in, find, driver, add_node}
+use Rattle.reading.specs.Reading.{Places, places_in, find, driver, next_wire, add_node}
 use Rattle.reading.specs.Holding.{outcome, NodesHold}
 use Rattle.bench_invocations.specs.declared.arguments.Arguments.{Arguments}
 use Rattle.bench_invocations.specs.Invocations.{arguments_of}
@@ -51,7 +52,7 @@ module _ (t : List ℕ) (es : List Entry) (q : Plan) (o : Binary) (p : Places) w
     -- an input with one, and the step before it
     step_made : (z : ℕ) → Ok z ≡ driver (find true t w es) → (new : List ℕ) (r : Try Chained)
         → outcome (λ d. nodes_of new d.nodes) r ≡ add_node p.nodes (step_cell q.out o k c.signal c.next) (nodes_of ns c.nodes)
-        → IfOk r (λ d. (d.signal ≡ c.nodes + 2) × (d.next ≡ z))
+        → IfOk r (λ d. (d.signal ≡ wire_word (Node (record { 0 = c.nodes }))) × (d.next ≡ z))
         → and_then r (λ d. rest_of t es q o p (k + 1) new d ws) ≡ rest_of t es q o p k ns c (w ∷ ws)
     unfolding chain_words
     step_made z f new (Err e) a b = rw (← f, ← a)
@@ -64,7 +65,7 @@ module _ (t : List ℕ) (es : List Entry) (q : Plan) (o : Binary) (p : Places) w
   words_made k x y (w ∷ ws) xs ns e =
       let i = inputs_each t es w ws xs e in
       subst (λ (l : List ℕ). chain_words t p q.out o k x y (w ∷ ws) (with_nodes ns es) ≡ chain p q.out o k x (y ∷ l) (with_nodes ns es)) (sym i.all_are)
-      (rw i.first_is (each_then (add_node p.nodes (step_cell q.out o k x y) ns) _ _ (λ ms. words_made (suc k) (length ns + 2) i.wire ws i.rest ms i.rest_are)))
+      (rw i.first_is (each_then (add_node p.nodes (step_cell q.out o k x y) ns) _ _ (λ ms. words_made (suc k) (next_wire ns) i.wire ws i.rest ms i.rest_are)))
 
   -- what the wires of a gate of two inputs or more give, from the first two on
   pub gate_made : Driven t es q → 2 ≤ q.inputs → (ns : List BoolNode) → chain_words t p q.out o 1 (get_or q.wires 0 0) (get_or q.wires 1 0) (drop 2 (arguments_of t q.inside)) (with_nodes ns es)
@@ -160,7 +161,7 @@ module _ {t : List ℕ} {es : List Entry} {q : Plan} {o : Binary} {words : ℕ} 
             }
 
         pub stepping_on : (d : Chained) → Ok (nodes_of new d.nodes) ≡ add_node (capacity 9 words) (step_cell q.out o (n + 1) c.signal c.next) (nodes_of ns c.nodes)
-            → (d.signal ≡ c.nodes + 2) × (d.next ≡ z) → NodesHold new d.nodes → Stepping t es q o words old first u (n + 1) new d
+            → (d.signal ≡ wire_word (Node (record { 0 = c.nodes }))) × (d.next ≡ z) → NodesHold new d.nodes → Stepping t es q o words old first u (n + 1) new d
         stepping_on d a b k =
             let g = turn s u h.coming w h.given p in
             record {

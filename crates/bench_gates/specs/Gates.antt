@@ -1,15 +1,15 @@
 -- A gate of BENCH: the wires of its inputs, and the nodes and the name that it adds.
 -- Assumes nothing.
-use Rattle.std.specs.Prelude.{ℕ, suc, ◌+◌, true, List, [], ◌∷◌, length, Err, Ok}
+use Rattle.std.specs.Prelude.{ℕ, suc, true, List, [], ◌∷◌, Err, Ok}
 use Rattle.circuit.specs.declared.refusals.Refusal.TheVariants.{WrongCount, Unknown}
 use Rattle.circuit.specs.declared.records.Name.{Name}
-use Rattle.circuit.specs.declared.records.Name.TheVariants.{Stretch, Step}
+use Rattle.circuit.specs.declared.records.Name.TheVariants.{Step}
 use Rattle.circuit.specs.declared.records.BoolNode.{BoolNode}
 use Rattle.circuit.specs.Refusals.{Try, and_then}
-use Rattle.circuit.specs.Records.{wire_of}
 use Rattle.text.specs.declared.words.Word.{Word}
 use Rattle.names.specs.Names.{Entry}
-use Rattle.reading.specs.Reading.{Places, Held, find, driver, add_node, add_alias, add_named}
+use Rattle.reading.specs.Reading.{Places, Held, find, driver, next_wire, add_node, word_cell, stretch_name, add_alias, add_named}
+use Rattle.bench_gates.specs.declared.operations.TheConstants.{NOT_TABLE}
 use Rattle.bench_gates.specs.declared.operations.Operation.{Operation}
 use Rattle.bench_gates.specs.declared.operations.Operation.TheVariants.{Buf, Not, Chain, Other}
 use Rattle.bench_gates.specs.declared.operations.Binary.{Binary}
@@ -26,26 +26,20 @@ only_one [] = Err WrongCount
 only_one (x ∷ []) = Ok x
 only_one (x ∷ y ∷ ys) = Err WrongCount
 
--- a cell with the wires of two words
-abbrev pub cell : Name → ℕ → ℕ → ℕ → ℕ → BoolNode
-cell name count table x y = record { kind = 2; count = count; table = table; name = name; first = wire_of x; second = wire_of y }
-
-abbrev pub output_name : Word → Name
-output_name out = Stretch out.start out.len
-
--- "step k (from 1) before the last is named `out$bench$k`"
+-- the name of step k of a chain, counted from 1: that of its gate with the step
 abbrev pub step_name : Word → ℕ → Name
 step_name out k = Step out.start out.len k
 
--- "NOT 1"
+-- a cell that is on where its input is off
 abbrev pub inverter : Word → ℕ → BoolNode
-inverter out x = cell (output_name out) 1 1 x 0
+inverter out x = word_cell (stretch_name out) NOT_TABLE (x ∷ [])
 
+-- a step before the last is not negated
 abbrev pub step_cell : Word → Binary → ℕ → ℕ → ℕ → BoolNode
-step_cell out o k x y = cell (step_name out k) 2 (truth_table (associative o)) x y
+step_cell out o k x y = word_cell (step_name out k) (truth_table (associative o)) (x ∷ y ∷ [])
 
 abbrev pub last_cell : Word → Binary → ℕ → ℕ → BoolNode
-last_cell out o x y = cell (output_name out) 2 (truth_table o) x y
+last_cell out o x y = word_cell (stretch_name out) (truth_table o) (x ∷ y ∷ [])
 
 abbrev pub with_nodes : List BoolNode → List Entry → Held
 with_nodes ns es = record { nodes = ns; names = es }
@@ -55,7 +49,8 @@ unfoldable pub chain : Places → Word → Binary → ℕ → ℕ → List ℕ �
 chain p out o k x [] h = Err WrongCount
 chain p out o k x (y ∷ []) h = add_named p out (last_cell out o x y) h
 chain p out o k x (y ∷ z ∷ zs) h =
-    and_then (add_node p.nodes (step_cell out o k x y) h.nodes) (λ ns. chain p out o (suc k) (length h.nodes + 2) (z ∷ zs) (with_nodes ns h.names))
+    and_then (add_node p.nodes (step_cell out o k x y) h.nodes)
+    (λ ns. chain p out o (suc k) (next_wire h.nodes) (z ∷ zs) (with_nodes ns h.names))
 
 unfoldable pub chained : Places → Word → Binary → List ℕ → Held → Try Held
 chained p out o [] h = Err WrongCount

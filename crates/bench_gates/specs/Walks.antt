@@ -6,7 +6,7 @@ use Rattle.circuit.specs.Refusals.{Try, and_then}
 use Rattle.circuit.specs.Records.{nodes_of}
 use Rattle.text.specs.declared.words.Word.{Word}
 use Rattle.names.specs.Names.{Entry}
-use Rattle.reading.specs.Reading.{Places, places_in, Held, find, driver, add_name, add_node, add_named}
+use Rattle.reading.specs.Reading.{Places, places_in, Held, find, driver, next_wire, add_name, add_node, add_named}
 use Rattle.reading.specs.Holding.{outcome, NodesHoldAfter}
 use Rattle.bench_invocations.specs.Invocations.{arguments_of}
 use Rattle.bench_gates.specs.declared.operations.Binary.{Binary}
@@ -43,7 +43,8 @@ unfoldable pub chain_words : List ℕ → Places → Word → Binary → ℕ →
 chain_words t p out o k x y [] h = add_named p out (last_cell out o x y) h
 chain_words t p out o k x y (w ∷ ws) h =
     and_then (driver (find true t w h.names))
-    (λ z. and_then (add_node p.nodes (step_cell out o k x y) h.nodes) (λ ns. chain_words t p out o (suc k) (length h.nodes + 2) z ws (with_nodes ns h.names)))
+    (λ z. and_then (add_node p.nodes (step_cell out o k x y) h.nodes)
+    (λ ns. chain_words t p out o (suc k) (next_wire h.nodes) z ws (with_nodes ns h.names)))
 
 -- a plan's chain, whatever the number of its inputs
 abbrev pub chain_planned : List ℕ → Plan → Binary → Places → Held → Try Held

@@ -1,38 +1,24 @@
 // A chained gate: all its cells but the last.
-ghost use Rattle.std.specs.Prelude.{◌≡◌, ◌+◌, ◌≤◌, ◌<◌, ◌^◌, length, IfOk};
+ghost use Rattle.std.specs.Prelude.{◌≡◌, ◌+◌, ◌≤◌, length, IfOk};
 ghost use Rattle.std.specs.Result.{result_unwrap_or};
 ghost use Rattle.circuit.specs.Records.{wire_word};
+ghost use Rattle.circuit.specs.declared.records.BoolWire.TheVariants.{Node};
 ghost use Rattle.reading.specs.Reading.{add_node};
 ghost use Rattle.reading.specs.Holding.{outcome, entries_of, NodesHold, NodesStep};
-ghost use Rattle.bench_gates.specs.Gates.{cell, step_cell};
+ghost use Rattle.bench_gates.specs.Gates.{step_cell};
 ghost use Rattle.bench_gates.specs.Walks.{StepsAre};
 
 use crate::inputs::argument_wire;
 use crate::operations::Binary;
 use crate::plans::Plan;
 use bench_invocations::iterators::arguments_of;
-use circuit::records::{BoolNode, BoolWire, Name};
+use circuit::records::{Name, NodeNumber, node_word};
 use circuit::refusals::Refusal;
 use names::NameTable;
-use reading::records::add_node;
+use reading::records::{add_node, word_cell};
 use text::words::Word;
 
-// A cell. By fields: a constructor would take the same five words by place.
-pub fn bench_lut(name: Name, count: usize, table: usize, x: usize, y: usize) -> BoolNode
-    ensures cell_is { result ≡ cell name count table x y }
-    ensures wires_fit { (wire_word result.first < 2 ^ 64) × (wire_word result.second < 2 ^ 64) }
-{
-    BoolNode {
-        kind: 2,
-        count,
-        table,
-        name,
-        first: BoolWire::from(x),
-        second: BoolWire::from(y),
-    }
-}
-
-// The cell of a step, as the next node: how many there are then.
+/// The cell of a step on the wires of two words, as the next node: how many there are then.
 pub fn push_bench_lut(
     out: Word,
     operation: Binary,
@@ -53,10 +39,10 @@ pub fn push_bench_lut(
         step,
     };
     let table = operation.associative().truth_table();
-    add_node(bench_lut(name, 2, table, x, y), count, nodes)
+    add_node(word_cell(name, table, &[x, y]), count, nodes)
 }
 
-// How far a chain is made: the nodes, and the two wires that the next step takes.
+/// How far a chain is made: how many nodes there are, and the words of the two wires that the next step takes.
 #[derive(Clone, Copy)]
 pub struct Chained {
     pub nodes: usize,
@@ -64,7 +50,7 @@ pub struct Chained {
     pub next: usize,
 }
 
-// A step, which is not the last since a wire comes after those that it takes.
+/// A step of a chain, which is not the last, since the wire `after` comes after those that it takes.
 pub fn chain_step(
     out: Word,
     operation: Binary,
@@ -77,7 +63,7 @@ pub fn chain_step(
     ensures area { NodesHold nodes.new (result_unwrap_or result chained).nodes }
     ensures step { NodesStep (λ room. add_node room (step_cell out operation step chained.signal chained.next))
         nodes.old chained.nodes nodes.new (outcome (λ d. d.nodes) result) }
-    ensures wires { IfOk result (λ d. (d.signal ≡ chained.nodes + 2) × (d.next ≡ after)) }
+    ensures wires { IfOk result (λ d. (d.signal ≡ wire_word (Node (record { 0 = chained.nodes }))) × (d.next ≡ after)) }
 {
     let made = push_bench_lut(
         out,
@@ -90,12 +76,12 @@ pub fn chain_step(
     )?;
     Ok(Chained {
         nodes: made,
-        signal: chained.nodes + 2,
+        signal: node_word(NodeNumber(chained.nodes)),
         next: after,
     })
 }
 
-// All steps of a gate but the last: one for each input after the second.
+/// All steps of a gate but the last: one for each input after the second.
 #[tactic(auto, using(crate::proofs::Chaining::stepping_on))]
 pub fn chain_steps(
     table: &NameTable,

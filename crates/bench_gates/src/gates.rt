@@ -5,13 +5,13 @@ ghost use Rattle.names.specs.Chains.{entries, Table};
 ghost use Rattle.reading.specs.Holding.{NamedNodesHold, NamedNodesHoldAfter, NamesStep, HeldStep};
 ghost use Rattle.bench_gates.specs.Walks.{Driven, buffer_planned, inverter_planned, chain_planned, gate_planned};
 
-use crate::chains::{Chained, bench_lut, chain_steps};
-use crate::operations::{Binary, Operation};
+use crate::chains::{Chained, chain_steps};
+use crate::operations::{Binary, NOT_TABLE, Operation};
 use crate::plans::Plan;
 use crate::short_chains::{chain_pair, chain_triple};
 use circuit::refusals::Refusal;
 use names::NameTable;
-use reading::records::{Counts, add_name, add_named, stretch_name};
+use reading::records::{Counts, add_name, add_named, stretch_name, word_cell};
 
 // BUFF, BUF: a name for the wire of the one input; how many names there are then.
 pub fn lower_buffer(
@@ -32,7 +32,7 @@ pub fn lower_buffer(
     add_name(text, plan.out, plan.wires[0], count, heads, names)
 }
 
-// NOT, INV: a cell of one wire.
+/// NOT, INV: a cell of one wire; `WrongCount` unless there is one input.
 pub fn lower_inverter(
     text: &[u8],
     plan: Plan,
@@ -49,7 +49,7 @@ pub fn lower_inverter(
     if plan.inputs != 1 {
         return Err(Refusal::WrongCount);
     }
-    let node = bench_lut(stretch_name(plan.out), 1, 1, plan.wires[0], 0);
+    let node = word_cell(stretch_name(plan.out), NOT_TABLE, &[plan.wires[0]]);
     add_named(text, plan.out, node, counts, heads, nodes, names)
 }
 

@@ -4,7 +4,10 @@ ghost use Rattle.bench_gates.specs.Operations.{binary_of, operation_of, truth_ta
 
 use text::bytes::is_named;
 
-// The operations of two or more inputs.
+/// The table of NOT: on where its one input is off.
+pub const NOT_TABLE: usize = 1;
+
+/// The operations of two or more inputs.
 #[derive(Clone, Copy, Debug, PartialEq, Eq)]
 pub enum Binary {
     And,

@@ -4,13 +4,14 @@ ghost use Rattle.reading.specs.Reading.{add_named};
 ghost use Rattle.reading.specs.Holding.{NamedNodesHold, NamedNodesHoldAfter, HeldStep};
 ghost use Rattle.bench_gates.specs.Gates.{last_cell, chain};
 
-use crate::chains::{bench_lut, push_bench_lut};
+use crate::chains::push_bench_lut;
 use crate::operations::Binary;
+use circuit::records::{NodeNumber, node_word};
 use circuit::refusals::Refusal;
-use reading::records::{Counts, add_named, stretch_name};
+use reading::records::{Counts, add_named, stretch_name, word_cell};
 use text::words::Word;
 
-// A cell of two wires with the gate's name: the last of a chain, or all of it.
+/// A cell of two wires with the gate's name: the last of a chain, or all of it.
 pub fn chain_pair(
     text: &[u8],
     out: Word,
@@ -28,11 +29,11 @@ pub fn chain_pair(
     ensures step { HeldStep (λ p. add_named p out (last_cell out operation x y))
         nodes.old names.old counts nodes.new names.new result }
 {
-    let node = bench_lut(stretch_name(out), 2, operation.truth_table(), x, y);
+    let node = word_cell(stretch_name(out), operation.truth_table(), &[x, y]);
     add_named(text, out, node, counts, heads, nodes, names)
 }
 
-// A gate of three inputs: the step that chains the first two, then the last cell. Beside `chain_many`, which looks for the third input's wire again.
+/// A gate of three inputs: the step that chains the first two, then the last cell. `chain_many` would look for the third input's wire again.
 #[tactic(auto, using(circuit::proofs::Codes::length_nodes), unfolding(crate::specs::Gates::chain))]
 pub fn chain_triple(
     text: &[u8],
@@ -52,11 +53,11 @@ pub fn chain_triple(
         nodes.old names.old counts nodes.new names.new result }
 {
     let [x, y, z] = wires;
-    let n = counts.nodes;
-    let made = push_bench_lut(out, operation, 1, x, y, n, nodes)?;
+    let made = push_bench_lut(out, operation, 1, x, y, counts.nodes, nodes)?;
+    let step = node_word(NodeNumber(counts.nodes));
     let chained = Counts {
         nodes: made,
         ..counts
     };
-    chain_pair(text, out, operation, n + 2, z, chained, heads, nodes, names)
+    chain_pair(text, out, operation, step, z, chained, heads, nodes, names)
 }

@@ -1,10 +1,9 @@
 -- The BLIF reader: a joined text's lines, one after the other, with the circuit, the names and the output words so far.
 -- Assumes nothing.
-use Rattle.std.specs.Prelude.{ℕ, Bool, true, false, cond, List, [], ◌∷◌, map, length, eqb, leb, Err, None, Ok, Option, Some}
+use Rattle.std.specs.Prelude.{ℕ, Bool, true, false, cond, List, [], ◌∷◌, length, eqb, leb, Err, None, Ok, Option, Some}
 use Rattle.circuit.specs.declared.refusals.Refusal.TheVariants.{WrongCount, BadRow, Unknown, Malformed}
 use Rattle.circuit.specs.declared.records.BoolNode.{BoolNode}
 use Rattle.circuit.specs.Refusals.{Try, and_then, need}
-use Rattle.circuit.specs.Records.{wire_of, cell_node}
 use Rattle.circuit.specs.Circuits.{Circuit}
 use Rattle.text.specs.Lines.{lines, line_words}
 use Rattle.text.specs.declared.words.Word.{Word}
@@ -13,7 +12,7 @@ use Rattle.cover.specs.declared.directives.Directive.{Directive}
 use Rattle.cover.specs.declared.directives.Directive.TheVariants.{Ignored, Inputs, Outputs, Names, Other}
 use Rattle.cover.specs.Cover.{last_of, cover}
 use Rattle.cover.specs.Directives.{dotted, directive_of, rest_of, rows_of, rows_after}
-use Rattle.reading.specs.Reading.{Places, Held, State, start, find, unless_defined, driver, stretch_name, add_alias, add_named, add_input, add_output, each, finish}
+use Rattle.reading.specs.Reading.{Places, Held, State, start, find, unless_defined, driver, word_cell, stretch_name, add_alias, add_named, add_input, add_output, each, finish}
 use Rattle.reading.specs.States.{with_held, with_outputs}
 use Rattle.reading.specs.Areas.{read_text}
 use Rattle.blif.specs.declared.gates.TheConstants.{BUFFER}
@@ -32,7 +31,7 @@ input_names w (x ∷ xs) = w ∷ input_names x xs
 
 -- the cell of a gate that is named by its output word, by the words of its wires
 abbrev pub gate_cell : Word → List ℕ → ℕ → BoolNode
-gate_cell out xs table = cell_node (stretch_name out) table (map wire_of xs)
+gate_cell out xs table = word_cell (stretch_name out) table xs
 
 abbrev pub cell : Places → Word → List ℕ → ℕ → Held → Try Held
 cell p out xs table h = add_named p out (gate_cell out xs table) h

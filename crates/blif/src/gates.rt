@@ -12,13 +12,13 @@ ghost use Rattle.reading.specs.Holding.{outcome, entries_of, NamedNodesHold, Nam
 ghost use Rattle.blif.specs.Blif.{gate_cell, drivers, gate, plan, names_line};
 ghost use Rattle.blif.specs.Holding.{driver_of, PlanIs};
 
-use circuit::records::{BoolNode, BoolWire};
+use circuit::records::BoolNode;
 use circuit::refusals::Refusal;
 use cover::gates::{Inputs, gate_words};
 use cover::lines::{line_words, rows_from};
 use cover::rows::parse_cover;
 use names::NameTable;
-use reading::records::{Counts, add_name, add_named, stretch_name};
+use reading::records::{Counts, add_name, add_named, stretch_name, word_cell};
 use text::words::Word;
 
 /// The table of one input whose value is the input's.
@@ -100,19 +100,15 @@ pub fn add_alias(
 }
 
 /// The cell of a gate.
-#[tactic(auto, using(circuit::proofs::Words::cell_fits, circuit::proofs::Words::word_fits))]
 pub fn gate_cell(p: Planned) -> BoolNode
     ensures cell { result ≡ gate_cell p.out (listed p.wires) p.table }
     ensures wires_fit { All HasWord result.wires }
 {
     let name = stretch_name(p.out);
     match p.wires {
-        Inputs::Zero => BoolNode::cell(name, p.table, &[]),
-        Inputs::One(first) => BoolNode::cell(name, p.table, &[BoolWire::from(first)]),
-        Inputs::Two(first, second) => {
-            let wires = [BoolWire::from(first), BoolWire::from(second)];
-            BoolNode::cell(name, p.table, &wires)
-        }
+        Inputs::Zero => word_cell(name, p.table, &[]),
+        Inputs::One(first) => word_cell(name, p.table, &[first]),
+        Inputs::Two(first, second) => word_cell(name, p.table, &[first, second]),
     }
 }
 

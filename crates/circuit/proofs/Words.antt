@@ -17,6 +17,10 @@ use Rattle.circuit.proofs.Sitting.{Sits, word_below, cell_sits}
 pub word_fits : (w : BoolWire) (x : ℕ) → w ≡ wire_of x → x < 18446744073709551616 → HasWord w
 word_fits w x e h = rw e (omega (arith, wire_word_back x))
 
+pub words_fit : (xs : List ℕ) → ((i : ℕ) → get_or xs i 0 < 18446744073709551616) → All HasWord (map wire_of xs)
+words_fit [] h = tt
+words_fit (x ∷ xs) h = (word_fits (wire_of x) x refl (h 0), words_fit xs (λ i. h (suc i)))
+
 all_up : (f : ℕ → BoolWire) → ((k : ℕ) → HasWord (f k)) → (i m : ℕ) → All HasWord (up_from f i m)
 all_up f h i zero = tt
 all_up f h i (suc m) = (h i, all_up f h (suc i) m)

@@ -12,7 +12,7 @@ use Rattle.circuit.specs.declared.records.BoolNode.{BoolNode}
 use Rattle.circuit.specs.declared.records.Output.{Output}
 use Rattle.circuit.specs.declared.records.TheConstants.{NODE_WORDS, OUTPUT_WORDS}
 use Rattle.circuit.specs.Refusals.{refuse_if, first_fault, Try, and_then, need}
-use Rattle.circuit.specs.Records.{wire_word, wire_of, input_node}
+use Rattle.circuit.specs.Records.{wire_word, wire_of, input_node, cell_node}
 use Rattle.circuit.specs.Circuits.{Circuit}
 use Rattle.text.specs.Bytes.{is_ascii}
 use Rattle.text.specs.Words.{bytes_of}
@@ -104,6 +104,10 @@ unfoldable pub add_named : Places → Word → BoolNode → Held → Try Held
 add_named p w n h =
     and_then (add_node p.nodes n h.nodes)
     (λ ns. with_names ns (add_name p.names w (next_wire h.nodes) h.names))
+
+-- a cell by the words of its wires
+abbrev pub word_cell : Name → ℕ → List ℕ → BoolNode
+word_cell name table xs = cell_node name table (map wire_of xs)
 
 -- a node has its name where it is defined in the joined text
 abbrev pub stretch_name : Word → Name

@@ -2,14 +2,15 @@
 ghost use Rattle.std.specs.Prelude.{◌≡◌, ◌+◌, ◌≤◌, length};
 ghost use Rattle.std.specs.Result.{result_unwrap_or};
 ghost use Rattle.laws.specs.Stretches.{All};
+ghost use Rattle.circuit.specs.declared.records.TheConstants.{WIRES};
 ghost use Rattle.circuit.specs.Records.{HasWord};
 ghost use Rattle.names.specs.Chains.{Table};
-ghost use Rattle.reading.specs.Reading.{add_name, add_node, add_named, stretch_name, add_input};
+ghost use Rattle.reading.specs.Reading.{add_name, add_node, add_named, word_cell, stretch_name, add_input};
 ghost use Rattle.reading.specs.Holding.{NodesHold, NamedNodesHold, NamedNodesHoldAfter, NamesStep, NodesStep, HeldStep};
 
 use crate::format::Names;
 use circuit::areas::{put_node, records_in};
-use circuit::records::{BoolNode, NODE_WORDS, Name, NodeNumber, node_word};
+use circuit::records::{BoolNode, BoolWire, NODE_WORDS, Name, NodeNumber, WIRES, node_word};
 use circuit::refusals::Refusal;
 use names::NameTable;
 use names::records::NAME_WORDS;
@@ -97,6 +98,19 @@ pub fn stretch_name(word: Word) -> Name
         start: word.start,
         len: word.len,
     }
+}
+
+/// A cell on the wires of these words.
+pub fn word_cell(name: Name, table: usize, words: &[usize]) -> BoolNode
+    requires { length words.now ≤ WIRES }
+    ensures cell { result ≡ word_cell name table words.now }
+    ensures wires_fit { All HasWord result.wires }
+{
+    let mut wires = [BoolWire::Const(false); WIRES];
+    for (k, wire) in wires[..words.len()].iter_mut().enumerate() {
+        *wire = BoolWire::from(words[k]);
+    }
+    BoolNode::cell(name, table, &wires[..words.len()])
 }
 
 /// A declared input and its name: `DefinedBefore`, then `NoRoom`.
