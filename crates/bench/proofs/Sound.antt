@@ -2,7 +2,7 @@
 -- Assumes nothing.
 use Rattle.std.specs.Prelude.{Ok}
 use Prim.Native.Nat.{ℕ, suc, ◌+◌, ◌≤◌, ◌<◌}
-use mathlib.Core.Path.{◌≡◌, refl, sym, subst}
+use mathlib.Core.Path.{◌≡◌, sym, subst}
 use mathlib.Core.Bool.{Bool, true, false, cond}
 use mathlib.Core.List.{List, [], ◌∷◌}
 use native.Mathlib.Omega.{arith}
@@ -16,14 +16,15 @@ use Rattle.circuit.specs.Refusals.{and_then}
 use Rattle.circuit.specs.Check.{check_circuit}
 use Rattle.circuit.specs.Circuits.{Circuit}
 use Rattle.circuit.proofs.Tries.{no_yes, yes_same, then_yes, need-yes, check_yes}
-use Rattle.circuit.proofs.Sitting.{Sits, word_below, one_sits, two_sits}
+use Rattle.circuit.proofs.Sitting.{Sits}
+use Rattle.circuit.proofs.Words.{word_cell_sits}
 use Rattle.text.specs.Lines.{lines}
 use Rattle.text.specs.Blanks.{trimmed}
 use Rattle.text.specs.Words.{bytes_of, between}
 use Rattle.text.specs.Joining.{joined_text}
 use Rattle.text.specs.declared.words.Word.{Word}
 use Rattle.names.specs.Names.{Entry}
-use Rattle.reading.specs.Reading.{Places, Held, State, start, find, driver, add_node, add_input, add_output, each, finish, places_in, text_fault}
+use Rattle.reading.specs.Reading.{Places, Held, State, start, find, driver, next_wire, word_cell, stretch_name, add_node, add_input, add_output, each, finish, places_in, text_fault}
 use Rattle.reading.specs.States.{with_held}
 use Rattle.reading.specs.Areas.{read_text}
 use Rattle.reading.proofs.States.{held_yes, outputs-yes, undefined_yes}
@@ -31,10 +32,11 @@ use Rattle.reading.proofs.Sound.{Wired, HeldSound, start-sound, wired_more, driv
 use Rattle.bench_invocations.specs.Invocations.{parse_invocation}
 use Rattle.bench_gates.specs.declared.operations.Binary.{Binary}
 use Rattle.bench_gates.specs.declared.operations.Binary.TheVariants.{And, Nand, Or, Nor, Xor, Xnor}
+use Rattle.bench_gates.specs.declared.operations.TheConstants.{NOT_TABLE}
 use Rattle.bench_gates.specs.declared.operations.Operation.{Operation}
 use Rattle.bench_gates.specs.declared.operations.Operation.TheVariants.{Buf, Not, Chain, Other}
 use Rattle.bench_gates.specs.Operations.{truth_table, associative}
-use Rattle.bench_gates.specs.Gates.{input_wires, only_one, cell, output_name, step_name, inverter, step_cell, last_cell, with_nodes, chain, chained, lower_gate}
+use Rattle.bench_gates.specs.Gates.{input_wires, only_one, step_name, inverter, step_cell, last_cell, with_nodes, chain, chained, lower_gate}
 use Rattle.bench.specs.declared.declarations.Declaration.{Declaration}
 use Rattle.bench.specs.declared.declarations.Declaration.TheVariants.{Input, Output, Other as OtherDeclaration}
 use Rattle.bench.specs.Bench.{Gate, gate_invoked, gate_of, gate_line, declared_in, declare, declaration_line, line_step, read_line, bench_lines, bench}
@@ -57,21 +59,21 @@ table_small Nor = lit< tt
 table_small Xor = lit< tt
 table_small Xnor = lit< tt
 
-cell_sits : (m : ℕ) (name : Name) (table x y : ℕ) → table < 16 → x < m + 2 → y < m + 2 → Sits m (cell name 2 table x y)
-cell_sits m name table x y t a b = two_sits m (cell name 2 table x y) refl (word_below m x a) refl t (word_below m y b)
+pair_sits : (m : ℕ) (name : Name) (table x y : ℕ) → table < 16 → x < m + 2 → y < m + 2 → Sits m (word_cell name table (x ∷ y ∷ []))
+pair_sits m name table x y t a b = word_cell_sits m name table (x ∷ y ∷ []) (omega arith) (omega arith) t (a, (b, tt))
 
 chain-sound : (p : Places) (out : Word) (o : Binary) (k x : ℕ) (ys : List ℕ) (h h' : Held) → x < length h.nodes + 2 → All (λ y. y < length h.nodes + 2) ys → HeldSound h
     → chain p out o k x ys h ≡ Ok h' → HeldSound h'
 unfolding chain
 chain-sound p out o k x [] h h' a ys s q = absurd (no_yes q)
 chain-sound p out o k x (y ∷ []) h h' a ys s q =
-    named-sound p out (last_cell out o x y) h h' (cell_sits (length h.nodes) (output_name out) (truth_table o) x y (table_small o) a ys.0) s q
+    named-sound p out (last_cell out o x y) h h' (pair_sits (length h.nodes) (stretch_name out) (truth_table o) x y (table_small o) a ys.0) s q
 chain-sound p out o k x (y ∷ z ∷ zs) h h' a ys s q =
     let r = then_yes (add_node p.nodes (step_cell out o k x y) h.nodes) _ h' q in
-    let sits = node_sits p.nodes (step_cell out o k x y) h.nodes r.0 s.nodes (cell_sits (length h.nodes) (step_name out k) (truth_table (associative o)) x y (table_small (associative o)) a ys.0) r.1 in
+    let sits = node_sits p.nodes (step_cell out o k x y) h.nodes r.0 s.nodes (pair_sits (length h.nodes) (step_name out k) (truth_table (associative o)) x y (table_small (associative o)) a ys.0) r.1 in
     let more : length h.nodes ≤ length r.0 = omega (arith, sits.1) in
     let next : HeldSound (with_nodes r.0 h.names) = record { nodes = sits.0; names = wired_more (length h.nodes) (length r.0) more h.names s.names } in
-    chain-sound p out o (suc k) (length h.nodes + 2) (z ∷ zs) (with_nodes r.0 h.names) h' (omega (arith, sits.1))
+    chain-sound p out o (suc k) (next_wire h.nodes) (z ∷ zs) (with_nodes r.0 h.names) h' (omega (arith, sits.1))
     (all_map (z ∷ zs) (λ v b. omega (arith, sits.1, b)) ys.1) next r.2
 
 one_below : (m : ℕ) (xs : List ℕ) (x : ℕ) → All (λ v. v < m + 2) xs → only_one xs ≡ Ok x → x < m + 2
@@ -87,7 +89,7 @@ lower_sound p out Buf xs h h' a s q =
 lower_sound p out Not xs h h' a s q =
     let x = then_yes (only_one xs) _ h' q in
     named-sound p out (inverter out x.0) h h'
-    (one_sits (length h.nodes) (inverter out x.0) refl (word_below (length h.nodes) x.0 (one_below (length h.nodes) xs x.0 a x.1)) refl (lit< tt)) s x.2
+    (word_cell_sits (length h.nodes) (stretch_name out) NOT_TABLE (x.0 ∷ []) (omega arith) (omega arith) (lit< tt) (one_below (length h.nodes) xs x.0 a x.1, tt)) s x.2
 lower_sound p out (Chain o) [] h h' a s q = absurd (no_yes q)
 lower_sound p out (Chain o) (x ∷ ys) h h' a s q = chain-sound p out o 1 x ys h h' a.0 a.1 s q
 lower_sound p out Other xs h h' a s q = absurd (no_yes q)
