@@ -9,7 +9,7 @@ use Rattle.circuit.specs.declared.records.BoolNode.{BoolNode}
 use Rattle.circuit.specs.declared.records.Name.{Name}
 use Rattle.circuit.specs.declared.records.TheConstants.{WIRES}
 use Rattle.circuit.specs.Records.{no_wire, places, HasWord, wire_of, input_node, cell_node}
-use Rattle.circuit.specs.Check.{not_below, some_not_below}
+use Rattle.circuit.specs.Check.{some_not_below}
 use Rattle.circuit.proofs.Codes.{wire_word_back}
 use Rattle.circuit.proofs.Sitting.{Sits, word_below, cell_sits}
 

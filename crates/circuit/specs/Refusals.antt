@@ -36,6 +36,11 @@ Try A = Result A Refusal
 abbrev pub Checked : Type 0
 Checked = Try (Unit {0})
 
+-- the fault of an answer, if it is one
+abbrev pub fault_of : {A : Type 0} → Try A → Checked
+fault_of (Ok a) = Ok tt
+fault_of (Err e) = Err e
+
 -- the number of an answer: "A refusal returns its number, any other result 0"
 abbrev pub checked_number : {A : Type 0} → Try A → ℕ
 checked_number (Ok a) = 0

@@ -3,6 +3,7 @@ ghost use Rattle.std.specs.Prelude.{◌≡◌, ◌+◌, ◌*◌, ◌^◌, ◌≤
 ghost use Rattle.circuit.specs.Records.{wires_of, nodes_of, output_wires};
 ghost use Rattle.circuit.specs.Check.{not_below, some_not_below, record_broken, check_nodes, check_node, node_broken, some_broken, whole, topological_fault, records_fault};
 
+use crate::checked::CheckedCircuit;
 use crate::nodes::{Nodes, Outputs};
 use crate::records::{
     BoolNode, BoolWire, CELL, INPUT, NODE_WORDS, OUTPUT_WORDS, WIRES, wire_at, wire_count,
@@ -136,13 +137,6 @@ pub fn check_records(nodes: &[usize], outputs: &[usize]) -> Result<(), Refusal>
 pub fn validate_topological(nodes: &[usize], outputs: &[usize]) -> Result<(), Refusal>
     ensures { result ≡ topological_fault nodes.now outputs.now }
 {
-    if !are_whole(nodes, outputs) {
-        return Err(Refusal::Broken);
-    }
-    let records = Nodes::of(nodes);
-    check_nodes(records)?;
-    if output_outside(Outputs::of(outputs), records.count) {
-        return Err(Refusal::Broken);
-    }
+    CheckedCircuit::of(nodes, outputs)?;
     Ok(())
 }

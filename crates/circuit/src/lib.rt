@@ -4,6 +4,7 @@
 
 pub mod areas;
 pub mod check;
+pub mod checked;
 pub mod nodes;
 pub mod records;
 pub mod refusals;
