@@ -17,6 +17,7 @@ use Rattle.circuit.specs.declared.records.Name.TheVariants.{Number}
 use Rattle.circuit.specs.declared.records.Output.{Output}
 use Rattle.circuit.specs.declared.records.Sizes.{Sizes}
 use Rattle.circuit.specs.Refusals.{Try, number_of}
+use Rattle.circuit.specs.Records.{cell_node}
 use Rattle.text.specs.Blanks.{is_blank, trim_start, trim_end, trim}
 use Rattle.text.specs.Bytes.{is_ascii, upper}
 use Rattle.text.specs.Words.{words, split_whitespace}
@@ -25,6 +26,7 @@ use Rattle.text.specs.Numbers.{all_digits, value_from, digits_from, digits, pars
 use Rattle.bristol_rows.specs.Numbers.{number, each_number}
 use Rattle.bristol_rows.specs.Header.{grouped_wire_count, groups, group_lines, two_numbers, header}
 use Rattle.bristol_rows.specs.Operation.{is_alias, inverts, two_input_table, truth_table, operation}
+use Rattle.bristol_rows.specs.Slots.{wire_number}
 use Rattle.bristol_rows.specs.Row.{drivers, row_output, row_wires, row}
 use Rattle.bristol.specs.Bristol.{wire_input, drive, store_cell, store, row_step, rows, outputs_from, start, body, circuit, bristol_circuit, bristol}
 
@@ -169,7 +171,7 @@ abbrev n : ℕ → BoolWire
 n k = Node (record { 0 = k })
 
 abbrev gate : ℕ → ℕ → BoolWire → BoolWire → BoolNode
-gate w t a b = record { kind = 2; count = 2; table = t; name = Number (record { 0 = w }); first = a; second = b }
+gate w t a b = cell_node (Number (wire_number w)) t (a ∷ b ∷ [])
 
 abbrev output : ℕ → BoolWire → Output
 output w a = record { name = Number (record { 0 = w }); wire = a }

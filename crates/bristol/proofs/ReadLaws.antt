@@ -8,6 +8,7 @@ use lib.ListN.{length, drop, replicate}
 use borrow.Author.Tests.{eq-eqb, le-leb}
 use Rattle.std.proofs.lemmas.List.{drop-replicate, replicate-append-replicate}
 use Rattle.laws.specs.Areas.{up_from, capacity}
+use Rattle.circuit.specs.declared.records.TheConstants.{NODE_WORDS}
 use Rattle.circuit.specs.declared.records.Sizes.{Sizes}
 use Rattle.circuit.specs.Refusals.{Try}
 use Rattle.circuit.specs.Circuits.{Circuit}
@@ -33,9 +34,9 @@ unfolding start
 start_is h wires e = rw (e, drop-replicate {X = ℕ} h.inputs h.wires 0)
 
 pub rows_told : (n : ℕ) (a w : List ℕ) (k m : ℕ) → k ≡ m → (ls : List (List ℕ)) (s s' : State) → s ≡ s' → (r : Try Rows)
-    → RowsAre n a w (rows (capacity 9 k) ls s) r → RowsAre n a w (rows (capacity 9 m) ls s') r
+    → RowsAre n a w (rows (capacity NODE_WORDS k) ls s) r → RowsAre n a w (rows (capacity NODE_WORDS m) ls s') r
 rows_told n a w k m e ls s s' q r h =
-    subst (λ (z : State). RowsAre n a w (rows (capacity 9 m) ls z) r) q (subst (λ (j : ℕ). RowsAre n a w (rows (capacity 9 j) ls s) r) e h)
+    subst (λ (z : State). RowsAre n a w (rows (capacity NODE_WORDS m) ls z) r) q (subst (λ (j : ℕ). RowsAre n a w (rows (capacity NODE_WORDS j) ls s) r) e h)
 
 -- ---- the body
 

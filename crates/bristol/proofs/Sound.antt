@@ -1,13 +1,13 @@
 -- Every circuit that the reader of Bristol texts accepts passes the circuit check.
 -- Assumes nothing.
 use Rattle.std.specs.Prelude.{Err, Ok}
-use Prim.Native.Nat.{ℕ, zero, suc, ◌+◌, ◌-◌, ◌<◌}
+use Prim.Native.Nat.{ℕ, zero, suc, ◌+◌, ◌-◌, ◌<◌, ◌≤◌, ◌^◌}
 use mathlib.Core.Path.{◌≡◌, refl, sym, ap, ◌∙◌, subst}
 use mathlib.Core.Bool.{Bool, true, false, cond}
 use mathlib.Core.List.{List, [], ◌∷◌, ◌++◌, map}
 use native.Mathlib.Nat.{zero-add}
 use native.Mathlib.Omega.{arith}
-use lib.Dec.{eqb, leb, ltb}
+use lib.Dec.{eqb, leb, ltb, lit<}
 use lib.ListN.{length, get_or, set, drop, replicate}
 use lib.Seq.{get_or-set_same, get_or-set_other, get_or-drop, set_out}
 use borrow.Author.Tests.{eqb-true, eqb-false, ltb-true, ltb-false, leb-false, lt-leb}
@@ -16,6 +16,8 @@ use Rattle.laws.specs.Areas.{up_from, capacity}
 use Rattle.laws.proofs.Areas.{length_up}
 use Rattle.laws.proofs.Filling.{length_snoc}
 use Rattle.laws.proofs.Sums.{front_at, past_front}
+use Rattle.circuit.specs.declared.records.Name.TheVariants.{Number}
+use Rattle.circuit.specs.declared.records.TheConstants.{WIRES, NODE_WORDS, OUTPUT_WORDS}
 use Rattle.circuit.specs.declared.refusals.Refusal.TheVariants.{Unknown, WrongCount}
 use Rattle.circuit.specs.declared.records.WireNumber.{WireNumber}
 use Rattle.circuit.specs.declared.records.BoolWire.{BoolWire}
@@ -23,11 +25,11 @@ use Rattle.circuit.specs.declared.records.BoolWire.TheVariants.{Const, Node}
 use Rattle.circuit.specs.declared.records.BoolNode.{BoolNode}
 use Rattle.circuit.specs.declared.records.Output.{Output}
 use Rattle.circuit.specs.Refusals.{Try, and_then, need}
-use Rattle.circuit.specs.Records.{wire_of, wire_word, no_wire}
+use Rattle.circuit.specs.Records.{wire_of, wire_word, no_wire, cell_node}
 use Rattle.circuit.specs.Check.{not_below, some_not_below, check_circuit}
 use Rattle.circuit.specs.Circuits.{Circuit}
 use Rattle.circuit.proofs.Tries.{no_yes, yes_same, then_yes, need-yes}
-use Rattle.circuit.proofs.Sitting.{AllSit, Sits, sit_more, circuit_checked, word_below, input_sits, one_sits, two_sits}
+use Rattle.circuit.proofs.Sitting.{AllSit, Sits, sit_more, circuit_checked, word_below, input_sits, cell_sits}
 use Rattle.text.specs.Bytes.{is_ascii, is_named}
 use Rattle.text.specs.Words.{split_whitespace}
 use Rattle.text.specs.Lines.{kept_lines}
@@ -35,17 +37,17 @@ use Rattle.bristol_rows.specs.declared.answers.Head.{Head}
 use Rattle.bristol_rows.specs.Header.{header}
 use Rattle.bristol_rows.specs.Operation.{is_alias, inverts, two_input_table, truth_table, Op, same, table, operation}
 use Rattle.bristol_rows.specs.Slots.{wire_number, node_number}
-use Rattle.bristol_rows.specs.Row.{drivers, cell_node, Gate, alias, cell, gate, row}
+use Rattle.bristol_rows.specs.Row.{drivers, Gate, alias, cell, gate, row}
 use Rattle.bristol_rows.proofs.Accepted.{Accepts, accepted}
 use Rattle.bristol_rows.proofs.InputLaws.{front, drivers-nil, drivers-length}
 use Rattle.bristol.specs.Bristol.{State, drive, store_cell, store, row_step, rows, output_of, outputs_from, wire_input, input_slot, start, body, circuit, bristol_circuit}
 
--- ---- the operation: one or two inputs, and a table with no bits above its entries
+-- ---- the operation: so many inputs as a record has places for, and a table with no bits above its entries
 
 record Fits (n t : ℕ) : Type 0 where
-  one : n ≡ 1 → t < 4
-  two : n ≡ 2 → t < 16
-  few : (n ≡ 1 → ⊥) → n ≡ 2
+  some : 1 ≤ n
+  few : n ≤ WIRES
+  table : t < 2 ^ 2 ^ n
 
 cond_yes : {A : Type 0} (P : A → Type 0) (t : Bool) (a b : Try A) (x : A) → cond t a b ≡ Ok x → (a ≡ Ok x → P x) → (b ≡ Ok x → P x) → P x
 cond_yes P true a b x h f g = f h
@@ -75,10 +77,10 @@ table_fits w n t h = go (eqb n 1) refl (eqb n 2) refl h
     go true e b f h =
         let q : 1 ≡ t = yes_same (need-yes (inverts w) Unknown (Ok 1) t h).1 in
         let one : n ≡ 1 = eqb-true n 1 e in
-        record { one = λ _. omega (arith, q); two = λ _. omega (arith, q); few = λ z. absurd (z one) }
+        record { some = omega arith; few = omega arith; table = rw (one, ← q) (lit< tt) }
     go false e true f h =
-        let not : n ≡ 1 → ⊥ = eqb-false n 1 e in
-        record { one = λ z. absurd (not z); two = λ _. two_small w t h; few = λ _. eqb-true n 2 f }
+        let two : n ≡ 2 = eqb-true n 2 f in
+        record { some = omega arith; few = omega arith; table = rw two (two_small w t h) }
     go false e false f h = absurd (no_yes h)
 
 -- what an operation makes of so many drivers
@@ -104,23 +106,20 @@ op_fits w n op h = go (is_alias w) h
 abbrev Wired : ℕ → List ℕ → Type 0
 Wired m wires = (i : ℕ) → get_or wires i 0 < m + 3
 
-abbrev Below : ℕ → List BoolWire → Type 0
-Below m ds = (i : ℕ) → not_below m (get_or ds i no_wire) ≡ false
-
 slot_below : (m : ℕ) (wires : List ℕ) → Wired m wires → (n : ℕ) → not_below m (wire_of (get_or wires n 0 - 1)) ≡ false
 slot_below m wires h n =
     let l : get_or wires n 0 - 1 < m + 2 = omega (arith, h n) in
     word_below m (get_or wires n 0 - 1) l
 
-drivers_below : (m : ℕ) (wires : List ℕ) → Wired m wires → (ns : List ℕ) (ds : List BoolWire) → drivers wires (map wire_number ns) ≡ Ok ds → Below m ds
-drivers_below m wires h [] ds e i = ap (λ (l : List BoolWire). not_below m (get_or l i no_wire)) (drivers-nil wires ds e)
-drivers_below m wires h (n ∷ ns) ds e i =
+drivers_below : (m : ℕ) (wires : List ℕ) → Wired m wires → (ns : List ℕ) (ds : List BoolWire) → drivers wires (map wire_number ns) ≡ Ok ds → some_not_below m ds ≡ false
+drivers_below m wires h [] ds e = rw (drivers-nil wires ds e)
+drivers_below m wires h (n ∷ ns) ds e =
     let f = front wires n ns ds e in
-    ap (λ (l : List BoolWire). not_below m (get_or l i no_wire)) f.all ∙ at i f.tail (drivers_below m wires h ns f.tail f.is)
-  where
-    at : (i : ℕ) (tail : List BoolWire) → Below m tail → not_below m (get_or (wire_of (get_or wires n 0 - 1) ∷ tail) i no_wire) ≡ false
-    at zero tail b = slot_below m wires h n
-    at (suc i) tail b = b i
+    rw (f.all, slot_below m wires h n) (drivers_below m wires h ns f.tail f.is)
+
+first_below : (m : ℕ) (ds : List BoolWire) → some_not_below m ds ≡ false → not_below m (get_or ds 0 no_wire) ≡ false
+first_below m [] h = refl
+first_below m (d ∷ ds) h = (or_parts (not_below m d) (some_not_below m ds) h).0
 
 -- ---- a row
 
@@ -129,23 +128,17 @@ abbrev GateSound : ℕ → Gate → Type 0
 GateSound m (alias out w) = not_below m w ≡ false
 GateSound m (cell out n) = Sits m n
 
-cell_sits : (m : ℕ) (out : WireNumber) (t : ℕ) (ds : List BoolWire) → Below m ds → Fits (length ds) t → Sits m (cell_node out t ds)
-cell_sits m out t ds b f = go (eqb (length ds) 1) refl
-  where
-    go : (a : Bool) → eqb (length ds) 1 ≡ a → Sits m (cell_node out t ds)
-    go true e = one_sits m (cell_node out t ds) refl (b 0) (eqb-true (length ds) 1 e) (f.one (eqb-true (length ds) 1 e))
-    go false e =
-        let l : length ds ≡ 2 = f.few (eqb-false (length ds) 1 e) in
-        two_sits m (cell_node out t ds) refl (b 0) l (f.two l) (b 1)
+row_cell_sits : (m : ℕ) (out : WireNumber) (t : ℕ) (ds : List BoolWire) → some_not_below m ds ≡ false → Fits (length ds) t → Sits m (cell_node (Number out) t ds)
+row_cell_sits m out t ds b f = cell_sits m (Number out) t ds f.some f.few f.table b
 
 gate-sound : (m : ℕ) (wires : List ℕ) → Wired m wires → (ws : List (List ℕ)) (g : Gate) → Accepts wires ws g → GateSound m g
 gate-sound m wires h ws g r =
     subst (GateSound m) r.is (go r.op (op_fits _ (length r.ins) r.op r.op_is))
   where
     go : (op : Op) → OpFits (length r.ins) op → GateSound m (gate (wire_number r.out) r.ds op)
-    go same f = drivers_below m wires h r.ins r.ds r.ds_are 0
+    go same f = first_below m r.ds (drivers_below m wires h r.ins r.ds r.ds_are)
     go (table t) f =
-        cell_sits m (wire_number r.out) t r.ds (drivers_below m wires h r.ins r.ds r.ds_are)
+        row_cell_sits m (wire_number r.out) t r.ds (drivers_below m wires h r.ins r.ds r.ds_are)
         (subst (λ (k : ℕ). Fits k t) (sym (drivers-length wires r.ins r.ds r.ds_are)) f)
 
 -- ---- the rows in turn
@@ -201,7 +194,7 @@ rows-sound room (l ∷ ls) s s' k h =
 
 inputs_sit : (i m : ℕ) → AllSit i (up_from wire_input i m)
 inputs_sit i zero = tt
-inputs_sit i (suc m) = (input_sits i (wire_input i) refl, inputs_sit (suc i) m)
+inputs_sit i (suc m) = (input_sits i (Number (wire_number i)), inputs_sit (suc i) m)
 
 start-sound : (h : Head) → StateSound (start h)
 unfolding start
@@ -246,11 +239,11 @@ bristol-sound text nodes outputs wires c e =
     let q = need-yes (is_ascii text) _ _ c p.1 in
     let h = then_yes (header (kept_lines text)) _ c q.1 in
     let n = need-yes (leb h.0.wires (capacity 1 wires)) _ _ c h.2 in
-    let m = need-yes (leb h.0.inputs (capacity 9 nodes)) _ _ c n.1 in
-    let s = then_yes (rows (capacity 9 nodes) (drop 3 (kept_lines text)) (start h.0)) _ c m.1 in
+    let m = need-yes (leb h.0.inputs (capacity NODE_WORDS nodes)) _ _ c n.1 in
+    let s = then_yes (rows (capacity NODE_WORDS nodes) (drop 3 (kept_lines text)) (start h.0)) _ c m.1 in
     let g = need-yes (eqb (length (drop 3 (kept_lines text))) h.0.gates) _ _ c s.2 in
     let from : ℕ = h.0.wires - h.0.outputs in
-    let o = then_yes (outputs_from (capacity 5 outputs) from (drop from s.0.wires) []) _ c g.1 in
-    let k = rows-sound (capacity 9 nodes) (drop 3 (kept_lines text)) (start h.0) s.0 (start-sound h.0) s.1 in
-    let b = outputs_below (length s.0.nodes) (capacity 5 outputs) from (drop from s.0.wires) (λ i. omega (arith, get_or-drop from s.0.wires i 0, k.wired (from + i))) [] o.0 o.1 (none_yet (length s.0.nodes)) in
+    let o = then_yes (outputs_from (capacity OUTPUT_WORDS outputs) from (drop from s.0.wires) []) _ c g.1 in
+    let k = rows-sound (capacity NODE_WORDS nodes) (drop 3 (kept_lines text)) (start h.0) s.0 (start-sound h.0) s.1 in
+    let b = outputs_below (length s.0.nodes) (capacity OUTPUT_WORDS outputs) from (drop from s.0.wires) (λ i. omega (arith, get_or-drop from s.0.wires i 0, k.wired (from + i))) [] o.0 o.1 (none_yet (length s.0.nodes)) in
     subst (λ (z : Circuit). check_circuit z.nodes (out_wires z.outputs) ≡ Ok tt) (yes_same o.2) (circuit_checked s.0.nodes (out_wires o.0) k.sits b)

@@ -15,6 +15,7 @@ use borrow.Author.Tests.{lt-ltb, le-ltb}
 use Rattle.laws.specs.Areas.{stored, capacity}
 use Rattle.laws.specs.Stretches.{is_empty}
 use Rattle.laws.proofs.Sums.{next_record}
+use Rattle.circuit.specs.declared.records.TheConstants.{NODE_WORDS, OUTPUT_WORDS}
 use Rattle.circuit.specs.declared.refusals.Refusal.{Refusal}
 use Rattle.circuit.specs.declared.refusals.Refusal.TheVariants.{NoRoom, NoDriver}
 use Rattle.circuit.specs.declared.records.WireNumber.{WireNumber}
@@ -34,13 +35,13 @@ use Rattle.bristol.specs.Promises.{HoldsNodes, HoldsOutputs, Stands, StepIs, Row
 
 -- ---- records held
 
-pub hold_node : (a b : List ℕ) (ns : List BoolNode) (n : BoolNode) (k : ℕ) → length ns ≡ k → b ≡ stored a (k * 9) (encode_node n) → length b ≡ length a
+pub hold_node : (a b : List ℕ) (ns : List BoolNode) (n : BoolNode) (k : ℕ) → length ns ≡ k → b ≡ stored a (k * NODE_WORDS) (encode_node n) → length b ≡ length a
     → HoldsNodes a ns → HoldsNodes b (ns ++ (n ∷ []))
-hold_node a b ns n k p e l h = record { words = next_record encode_node 9 node_wide a b ns n k p e l h.words }
+hold_node a b ns n k p e l h = record { words = next_record encode_node NODE_WORDS node_wide a b ns n k p e l h.words }
 
-pub hold_output : (a b : List ℕ) (os : List Output) (o : Output) (k : ℕ) → length os ≡ k → b ≡ stored a (k * 5) (encode_output o) → length b ≡ length a
+pub hold_output : (a b : List ℕ) (os : List Output) (o : Output) (k : ℕ) → length os ≡ k → b ≡ stored a (k * OUTPUT_WORDS) (encode_output o) → length b ≡ length a
     → HoldsOutputs a os → HoldsOutputs b (os ++ (o ∷ []))
-hold_output a b os o k p e l h = record { words = next_record encode_output 5 output_wide a b os o k p e l h.words }
+hold_output a b os o k p e l h = record { words = next_record encode_output OUTPUT_WORDS output_wide a b os o k p e l h.words }
 
 -- ---- a cell, by what drives its wire
 
@@ -63,8 +64,8 @@ module _ (room : ℕ) (out : WireNumber) (n : BoolNode) (ns : List BoolNode) (ws
 
 -- as the loop has it: the area's length is the entry's
 pub step_of : (a w : List ℕ) (k m : ℕ) → k ≡ m → (l : List ℕ) (ns : List BoolNode) (ws : List ℕ) (x : Try NodeNumber)
-    → StepIs a w (row_step (capacity 9 k) l (record { nodes = ns; wires = ws })) x → StepIs a w (row_step (capacity 9 m) l (record { nodes = ns; wires = ws })) x
-step_of a w k m e l ns ws x h = subst (λ (j : ℕ). StepIs a w (row_step (capacity 9 j) l (record { nodes = ns; wires = ws })) x) e h
+    → StepIs a w (row_step (capacity NODE_WORDS k) l (record { nodes = ns; wires = ws })) x → StepIs a w (row_step (capacity NODE_WORDS m) l (record { nodes = ns; wires = ws })) x
+step_of a w k m e l ns ws x h = subst (λ (j : ℕ). StepIs a w (row_step (capacity NODE_WORDS j) l (record { nodes = ns; wires = ws })) x) e h
 
 -- there are no more kept lines than bytes
 raw_few : (l : List ℕ) → length (raw_lines l) ≤ length l

@@ -10,6 +10,7 @@ use Rattle.circuit.specs.declared.records.BoolNode.{BoolNode}
 use Rattle.circuit.specs.declared.records.Name.TheVariants.{Number}
 use Rattle.circuit.specs.declared.records.Output.{Output}
 use Rattle.circuit.specs.declared.records.Sizes.{Sizes}
+use Rattle.circuit.specs.declared.records.TheConstants.{NODE_WORDS, OUTPUT_WORDS}
 use Rattle.circuit.specs.Refusals.{Try, and_then, need}
 use Rattle.circuit.specs.Records.{input_node}
 use Rattle.circuit.specs.Circuits.{Circuit, filled, read_answer, node_words, output_words}
@@ -97,7 +98,7 @@ circuit nodeRoom outputRoom wireRoom ls =
 unfoldable pub bristol_circuit : List ℕ → ℕ → ℕ → ℕ → Try Circuit
 bristol_circuit text nodes outputs wires =
     need (leb (length text) 1048576) TextTooLong (need (is_ascii text) NotAscii
-    (circuit (capacity 9 nodes) (capacity 5 outputs) (capacity 1 wires) (kept_lines text)))
+    (circuit (capacity NODE_WORDS nodes) (capacity OUTPUT_WORDS outputs) (capacity 1 wires) (kept_lines text)))
 
 -- what the call answers and leaves
 pub record Left : Type 0 where

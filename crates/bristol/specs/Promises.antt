@@ -6,6 +6,7 @@ use Rattle.circuit.specs.declared.records.BoolNode.{BoolNode}
 use Rattle.circuit.specs.declared.records.NodeNumber.{NodeNumber}
 use Rattle.circuit.specs.declared.records.Output.{Output}
 use Rattle.circuit.specs.declared.records.Sizes.{Sizes}
+use Rattle.circuit.specs.declared.records.TheConstants.{NODE_WORDS, OUTPUT_WORDS}
 use Rattle.circuit.specs.Refusals.{Try, Checked, and_then}
 use Rattle.circuit.specs.Records.{encode_node, encode_output}
 use Rattle.circuit.specs.Circuits.{Circuit}
@@ -23,14 +24,14 @@ pub record Holds {A : Type 0} (enc : A → List ℕ) (w : ℕ) (a : List ℕ) (x
   pub words : a ≡ encodes enc xs ++ replicate (length a - length xs * w) 0
 
 abbrev pub HoldsNodes : List ℕ → List BoolNode → Type 0
-HoldsNodes a ns = Holds encode_node 9 a ns
+HoldsNodes a ns = Holds encode_node NODE_WORDS a ns
 
 -- of any nodes, so many, that an area holds
 abbrev pub OfHeld : List ℕ → ℕ → (List BoolNode → Type 0) → Type 0
 OfHeld a n P = (ns : List BoolNode) → length ns ≡ n → HoldsNodes a ns → P ns
 
 abbrev pub HoldsOutputs : List ℕ → List Output → Type 0
-HoldsOutputs a os = Holds encode_output 5 a os
+HoldsOutputs a os = Holds encode_output OUTPUT_WORDS a os
 
 -- ---- the rows
 
@@ -78,7 +79,7 @@ OutputsAre outputs x (Ok k) = OutputsStand outputs x k
 -- a header that fits the areas, which are empty; the wires have a place for each wire
 pub record Ready (head : Head) (nodes outputs wires : List ℕ) : Type 0 where
   pub fits : head.inputs + head.outputs ≤ head.wires
-  pub room : head.inputs ≤ capacity 9 (length nodes)
+  pub room : head.inputs ≤ capacity NODE_WORDS (length nodes)
   pub nodes_empty : HoldsNodes nodes []
   pub outputs_empty : HoldsOutputs outputs []
   pub wires_zero : wires ≡ replicate head.wires 0

@@ -1,5 +1,7 @@
 // The reader.
 ghost use Rattle.std.specs.Prelude.{◌≡◌, [], ◌++◌, ◌*◌, ◌≤◌, ◌<◌, length, drop};
+ghost use Rattle.circuit.specs.declared.records.TheConstants.{NODE_WORDS, OUTPUT_WORDS};
+ghost use Rattle.laws.specs.declared.TheConstants.{MOST_RECORDS};
 ghost use Rattle.laws.specs.Areas.{capacity, up_from};
 ghost use Rattle.text.specs.Lines.{kept_lines};
 ghost use Rattle.text.specs.Iterators.{kept_left};
@@ -13,7 +15,7 @@ use bristol_rows::answers::Head;
 use bristol_rows::header::read_header;
 use bristol_rows::slots::slot_of_node;
 use circuit::areas::{clear_all, put_node, records_in};
-use circuit::records::{BoolNode, Name, NodeNumber, Sizes, WireNumber};
+use circuit::records::{BoolNode, NODE_WORDS, Name, NodeNumber, Sizes, WireNumber};
 use circuit::refusals::Refusal;
 use text::bytes::is_ascii;
 use text::iterators::kept_lines;
@@ -21,8 +23,9 @@ use text::lines::KeptLines;
 
 /// The inputs: each of the first wires of the file is driven by an input node of its own, the next of the circuit. The answer
 /// is the number of the node after them.
+#[tactic(auto, using(circuit::proofs::Words::input_fits))]
 pub fn put_inputs(nodes: &mut [usize], wires: &mut [usize], count: usize) -> NodeNumber
-    requires rooms { (count * 9 ≤ length nodes.old) × (count ≤ length wires.old) × (count < 1048577) }
+    requires rooms { (count * NODE_WORDS ≤ length nodes.old) × (count ≤ length wires.old) × (count ≤ MOST_RECORDS) }
     requires nodes_empty { HoldsNodes nodes.old [] }
     ensures nodes_held { HoldsNodes nodes.new (up_from wire_input 0 count) }
     ensures wires_driven { wires.new ≡ up_from input_slot 0 count ++ drop count wires.old }
@@ -47,8 +50,8 @@ pub fn read_gates(
     wires: &mut [usize],
     inputs: usize,
 ) -> Result<Rows, Refusal>
-    requires { (inputs ≤ length wires.old) × (inputs ≤ capacity 9 (length nodes.old)) × HoldsNodes nodes.old [] }
-    ensures { RowsAre (length (kept_left lines.entry)) nodes.new wires.new (rows (capacity 9 (length nodes.old)) (kept_left lines.entry) (record { nodes = up_from wire_input 0 inputs; wires = up_from input_slot 0 inputs ++ drop inputs wires.old })) result }
+    requires { (inputs ≤ length wires.old) × (inputs ≤ capacity NODE_WORDS (length nodes.old)) × HoldsNodes nodes.old [] }
+    ensures { RowsAre (length (kept_left lines.entry)) nodes.new wires.new (rows (capacity NODE_WORDS (length nodes.old)) (kept_left lines.entry) (record { nodes = up_from wire_input 0 inputs; wires = up_from input_slot 0 inputs ++ drop inputs wires.old })) result }
 {
     let next = put_inputs(nodes, wires, inputs);
     read_rows(lines, nodes, wires, next)
@@ -65,7 +68,7 @@ pub fn read_body(
     wires: &mut [usize],
 ) -> Result<Sizes, Refusal>
     requires { Ready head nodes.old outputs.old wires.old }
-    ensures { ReadIs nodes.new outputs.new (body (capacity 9 (length nodes.old)) (capacity 5 (length outputs.old)) head (kept_left lines.entry)) result }
+    ensures { ReadIs nodes.new outputs.new (body (capacity NODE_WORDS (length nodes.old)) (capacity OUTPUT_WORDS (length outputs.old)) head (kept_left lines.entry)) result }
 {
     let read = read_gates(lines, nodes, wires, head.inputs)?;
     if read.rows != head.gates {
@@ -87,7 +90,7 @@ pub fn read_clean(
     wires: &mut [usize],
 ) -> Result<Sizes, Refusal>
     requires { Ready head nodes.old outputs.old wires.old }
-    ensures { Leaves (leave (length nodes.old) (length outputs.old) (length wires.old) (body (capacity 9 (length nodes.old)) (capacity 5 (length outputs.old)) head (kept_left lines.entry))) result nodes.new outputs.new wires.new }
+    ensures { Leaves (leave (length nodes.old) (length outputs.old) (length wires.old) (body (capacity NODE_WORDS (length nodes.old)) (capacity OUTPUT_WORDS (length outputs.old)) head (kept_left lines.entry))) result nodes.new outputs.new wires.new }
 {
     let read = read_body(lines, head, nodes, outputs, wires);
     wires.fill(0);
@@ -107,11 +110,13 @@ pub fn read_circuit(
     wires: &mut [usize],
 ) -> Result<Sizes, Refusal>
     requires { Zeros nodes.old × Zeros outputs.old × Zeros wires.old }
-    ensures { Leaves (leave (length nodes.old) (length outputs.old) (length wires.old) (circuit (capacity 9 (length nodes.old)) (capacity 5 (length outputs.old)) (capacity 1 (length wires.old)) (kept_lines text.now))) result nodes.new outputs.new wires.new }
+    ensures { Leaves (leave (length nodes.old) (length outputs.old) (length wires.old) (circuit (capacity NODE_WORDS (length nodes.old)) (capacity OUTPUT_WORDS (length outputs.old)) (capacity 1 (length wires.old)) (kept_lines text.now))) result nodes.new outputs.new wires.new }
 {
     let mut lines = kept_lines(text);
     let head = read_header(&mut lines)?;
-    if records_in(wires.len(), 1) < head.wires || records_in(nodes.len(), 9) < head.inputs {
+    if records_in(wires.len(), 1) < head.wires
+        || records_in(nodes.len(), NODE_WORDS) < head.inputs
+    {
         return Err(Refusal::NoRoom);
     }
     read_clean(lines, head, nodes, outputs, &mut wires[..head.wires])

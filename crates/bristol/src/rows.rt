@@ -1,5 +1,6 @@
 // The rows in turn.
 ghost use Rattle.std.specs.Prelude.{length};
+ghost use Rattle.circuit.specs.declared.records.TheConstants.{NODE_WORDS};
 ghost use Rattle.laws.specs.Areas.{capacity};
 ghost use Rattle.text.specs.Iterators.{kept_left};
 ghost use Rattle.bristol.specs.Bristol.{row_step, rows};
@@ -20,7 +21,7 @@ pub fn row_step(
     wires: &mut [usize],
     next: NodeNumber,
 ) -> Result<NodeNumber, Refusal>
-    ensures { OfHeld nodes.old next.0 (λ ns. StepIs nodes.new wires.new (row_step (capacity 9 (length nodes.old)) line.now (record { nodes = ns; wires = wires.old })) result) }
+    ensures { OfHeld nodes.old next.0 (λ ns. StepIs nodes.new wires.new (row_step (capacity NODE_WORDS (length nodes.old)) line.now (record { nodes = ns; wires = wires.old })) result) }
 {
     let row = read_row(line, wires);
     store_row(nodes, wires, next, row)
@@ -34,7 +35,7 @@ pub fn read_rows(
     wires: &mut [usize],
     first: NodeNumber,
 ) -> Result<Rows, Refusal>
-    ensures { OfHeld nodes.old first.0 (λ ns. RowsAre (length (kept_left lines.entry)) nodes.new wires.new (rows (capacity 9 (length nodes.old)) (kept_left lines.entry) (record { nodes = ns; wires = wires.old })) result) }
+    ensures { OfHeld nodes.old first.0 (λ ns. RowsAre (length (kept_left lines.entry)) nodes.new wires.new (rows (capacity NODE_WORDS (length nodes.old)) (kept_left lines.entry) (record { nodes = ns; wires = wires.old })) result) }
 {
     let mut next = first;
     let mut rows = 0;

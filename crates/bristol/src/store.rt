@@ -1,8 +1,10 @@
 // What a row made, stored.
 ghost use Rattle.std.specs.Prelude.{List, ℕ, ◌<◌, ◌^◌, length, Ok};
+ghost use Rattle.circuit.specs.declared.records.TheConstants.{NODE_WORDS};
 ghost use Rattle.laws.specs.Areas.{capacity};
 ghost use Rattle.circuit.specs.declared.records.BoolNode.{BoolNode};
-ghost use Rattle.circuit.specs.Records.{wire_word};
+ghost use Rattle.laws.specs.Stretches.{All};
+ghost use Rattle.circuit.specs.Records.{HasWord};
 ghost use Rattle.bristol_rows.specs.Slots.{slot_of_driver};
 ghost use Rattle.bristol_rows.specs.Promises.{RowFits, gate_of};
 ghost use Rattle.bristol.specs.Bristol.{drive, store_cell};
@@ -11,7 +13,7 @@ ghost use Rattle.bristol.specs.Promises.{OfHeld, DriveIs, StepIs, store_of};
 use bristol_rows::answers::Row;
 use bristol_rows::slots::{UNDRIVEN, slot_of, slot_of_driver};
 use circuit::areas::{put_node, records_in};
-use circuit::records::{BoolNode, BoolWire, NodeNumber, WireNumber};
+use circuit::records::{BoolNode, BoolWire, NODE_WORDS, NodeNumber, WireNumber};
 use circuit::refusals::Refusal;
 
 /// A wire of the file, driven by a wire of the circuit from now on; `DrivenTwice` if it has a driver.
@@ -52,10 +54,10 @@ pub fn store_cell(
     cell: BoolNode,
 ) -> Result<NodeNumber, Refusal>
     requires out_in_bounds { out.0 < length wires.old }
-    requires first_bound { (wire_word cell.first < 2 ^ 64) × (wire_word cell.second < 2 ^ 64) }
-    ensures { OfHeld nodes.old next.0 (λ ns. StepIs nodes.new wires.new (store_cell (capacity 9 (length nodes.old)) out cell ns wires.old) result) }
+    requires wires_fit { All HasWord cell.wires }
+    ensures { OfHeld nodes.old next.0 (λ ns. StepIs nodes.new wires.new (store_cell (capacity NODE_WORDS (length nodes.old)) out cell ns wires.old) result) }
 {
-    if records_in(nodes.len(), 9) <= next.0 {
+    if records_in(nodes.len(), NODE_WORDS) <= next.0 {
         return Err(Refusal::NoRoom);
     }
     drive(wires, out, BoolWire::Node(next))?;
@@ -72,7 +74,7 @@ pub fn store_row(
     row: Result<Row, Refusal>,
 ) -> Result<NodeNumber, Refusal>
     requires { RowFits (length wires.old) row }
-    ensures { OfHeld nodes.old next.0 (λ ns. StepIs nodes.new wires.new (store_of (capacity 9 (length nodes.old)) (gate_of row) (record { nodes = ns; wires = wires.old })) result) }
+    ensures { OfHeld nodes.old next.0 (λ ns. StepIs nodes.new wires.new (store_of (capacity NODE_WORDS (length nodes.old)) (gate_of row) (record { nodes = ns; wires = wires.old })) result) }
 {
     match row? {
         Row::Alias { out, wire } => store_alias(wires, next, out, wire),

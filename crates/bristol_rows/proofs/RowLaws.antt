@@ -1,30 +1,36 @@
 -- Laws of a row's words after its input wires, and of its arities.
 -- Assumes nothing.
 use Rattle.std.specs.Prelude.{Err, Ok}
-use Prim.Native.Nat.{ℕ, suc, ◌+◌, ◌≤◌, ◌<◌}
+use Prim.Native.Nat.{ℕ, zero, suc, min, ◌+◌, ◌≤◌, ◌<◌}
 use mathlib.Core.Path.{◌≡◌, refl, sym, ap, ap₂, ◌∙◌, subst}
 use mathlib.Core.Bool.{Bool, true, false, cond}
 use mathlib.Core.List.{List, [], ◌∷◌, map}
 use mathlib.Core.Option.{Option, none, some}
 use native.Mathlib.Omega.{arith}
-use lib.Dec.{eqb, ltb}
+use lib.Dec.{eqb, leb, ltb}
 use lib.ListN.{length, get_or, take, drop, length-drop}
-use lib.Seq.{length-take-le}
-use borrow.Author.Tests.{eq-eqb, ne_eqb, le-leb, lt-leb, eqb-true, eqb-false, ltb-true, ltb-false}
+use lib.Seq.{length-take-le, take-nil}
+use Rattle.std.proofs.lemmas.List.{take_min}
+use Rattle.laws.specs.Stretches.{All}
+use borrow.Author.Tests.{leb-true, leb-false, eq-eqb, ne_eqb, le-leb, lt-leb, eqb-true, eqb-false, ltb-true, ltb-false}
 use Rattle.circuit.specs.declared.refusals.Refusal.{Refusal}
 use Rattle.circuit.specs.declared.refusals.Refusal.TheVariants.{NoDriver, WrongCount, Malformed, NotNumber, OutputOutside}
 use Rattle.circuit.specs.declared.records.WireNumber.{WireNumber}
 use Rattle.circuit.specs.declared.records.BoolWire.{BoolWire}
+use Rattle.circuit.specs.declared.records.BoolNode.{BoolNode}
+use Rattle.circuit.specs.declared.records.Name.TheVariants.{Number}
+use Rattle.circuit.specs.Records.{no_wire, HasWord, cell_node}
+use Rattle.circuit.proofs.Words.{cell_fits}
 use Rattle.circuit.specs.Refusals.{Try, and_then, need}
 use Rattle.text.specs.Numbers.{parse_usize, parse_each, and_then as then}
 use Rattle.bristol_rows.specs.declared.answers.Slots.{Slots}
 use Rattle.bristol_rows.specs.declared.answers.Row.{Row}
 use Rattle.bristol_rows.specs.Numbers.{or_refuse, number, each_number}
-use Rattle.bristol_rows.specs.Operation.{operation}
-use Rattle.bristol_rows.specs.Slots.{wire_number}
-use Rattle.bristol_rows.specs.Row.{drivers, Gate, gate, row_output, row_wires, row}
-use Rattle.bristol_rows.specs.Promises.{no_slots, add_inputs, Gathered, drivers_of, RowIs, gate_by, output_by, end_by, wires_by, invalid_arity, first_arity, wrong_outputs}
-use Rattle.bristol_rows.proofs.OperationLaws.{operation_no}
+use Rattle.bristol_rows.specs.Operation.{same, operation}
+use Rattle.bristol_rows.specs.Slots.{wire_number, driver_of_slot}
+use Rattle.bristol_rows.specs.Row.{drivers, Gate, alias, gate, row_output, row_wires, row}
+use Rattle.bristol_rows.specs.Promises.{no_slots, add_inputs, Gathered, drivers_of, CellIs, RowIs, gate_by, output_by, end_by, wires_by, invalid_arity, first_arity, wrong_outputs}
+use Rattle.bristol_rows.proofs.OperationLaws.{operation_no, operation_same}
 use Rattle.bristol_rows.proofs.InputLaws.{inputs_invalid, inputs-slots, inputs_valid, undriven_slots, drivers-length, Driven, driven_slots}
 
 pub refused : (m : ℕ) (x : Try Gate) (e : Refusal) → x ≡ Err e → RowIs m x (Err e)
@@ -51,14 +57,39 @@ parsed_length (w ∷ ws) ns h = go (parse_usize w) (parse_each ws) refl h (parse
         let e : ns ≡ n ∷ ms = cc in
         ap length e ∙ ap suc (ih ms q)
 
+-- another name of what drives the one input
+pub alias_gate : (op : List ℕ) (n : ℕ) (slots : Slots) (out : WireNumber) (w : BoolWire) → w ≡ driver_of_slot slots.first → operation op n ≡ Ok same → Ok (alias out w) ≡ gate_by op n slots out
+unfolding gate_by
+alias_gate op n slots out w e h = rw (h, e, operation_same op n h)
+
+-- a cell on what drives the first inputs
+pub cell_made : (out : WireNumber) (t n : ℕ) (slots : Slots) (a b : BoolWire) → a ≡ driver_of_slot slots.first → b ≡ driver_of_slot slots.second → HasWord a → HasWord b
+    → (r : BoolNode) → r ≡ cell_node (Number out) t (take (min n 2) (a ∷ b ∷ [])) → CellIs (cell_node (Number out) t (drivers_of n slots)) r
+cell_made out t n slots a b p q f g r e =
+    let ds : List BoolWire = driver_of_slot slots.first ∷ driver_of_slot slots.second ∷ [] in
+    let made : r ≡ cell_node (Number out) t (drivers_of n slots) =
+    e ∙ ap (cell_node (Number out) t) (ap₂ (λ (x y : BoolWire). take (min n 2) (x ∷ y ∷ [])) p q ∙ take_min n ds) in
+    record { is = made; wires_fit = cell_fits r (Number out) t (drivers_of n slots) made (all_take n ds (rw (← p) f, (rw (← q) g, tt))) }
+  where
+    all_take : (n : ℕ) (l : List BoolWire) → All HasWord l → All HasWord (take n l)
+    all_take n [] h = rw (take-nil {A = BoolWire} n) tt
+    all_take zero (x ∷ l) h = tt
+    all_take (suc n) (x ∷ l) h = (h.0, all_take n l h.1)
+
 op_same : (wires : List ℕ) (op : List ℕ) (ds : List BoolWire) (n : ℕ) (slots : Slots) (out : WireNumber) → Driven wires slots ds → n ≡ length ds
     → and_then (operation op n) (λ o. Ok (gate out (drivers_of n slots) o)) ≡ and_then (operation op n) (λ o. Ok (gate out ds o))
-op_same wires op [] n slots out d e =
-    operation_no op n (λ o. gate out (drivers_of n slots) o) (λ o. gate out [] o) (λ z. omega (arith, e)) (λ z. omega (arith, e))
-op_same wires op (x ∷ []) n slots out d e = rw (e, d.first_is)
-op_same wires op (x ∷ y ∷ []) n slots out d e = rw (e, d.first_is, d.second_is)
-op_same wires op (x ∷ y ∷ z ∷ zs) n slots out d e =
-    operation_no op n (λ o. gate out (drivers_of n slots) o) (λ o. gate out (x ∷ y ∷ z ∷ zs) o) (λ q. omega (arith, e)) (λ q. omega (arith, e))
+op_same wires op ds n slots out d e = go (leb n 2) refl
+  where
+    two : (l : List BoolWire) → length l ≤ 2 → take (length l) (get_or l 0 no_wire ∷ get_or l 1 no_wire ∷ []) ≡ l
+    two [] h = refl
+    two (x ∷ []) h = refl
+    two (x ∷ y ∷ []) h = refl
+    two (x ∷ y ∷ z ∷ zs) h = absurd (omega arith)
+
+    go : (t : Bool) → leb n 2 ≡ t → and_then (operation op n) (λ o. Ok (gate out (drivers_of n slots) o)) ≡ and_then (operation op n) (λ o. Ok (gate out ds o))
+    go true q = rw (d.first_is, d.second_is, e, two ds (omega (arith, e, leb-true n 2 q)))
+    go false q =
+        operation_no op n (λ o. gate out (drivers_of n slots) o) (λ o. gate out ds o) (λ z. omega (arith, leb-false n 2 q)) (λ z. omega (arith, leb-false n 2 q))
 
 same_test : (a b c d : ℕ) → (a ≡ b → c ≡ d) → (c ≡ d → a ≡ b) → eqb a b ≡ eqb c d
 same_test a b c d f g = go (eqb a b) refl

@@ -7,8 +7,9 @@ use Rattle.circuit.specs.declared.refusals.Refusal.TheVariants.{NoDriver, WrongC
 use Rattle.circuit.specs.declared.records.WireNumber.{WireNumber}
 use Rattle.circuit.specs.declared.records.BoolWire.{BoolWire}
 use Rattle.circuit.specs.declared.records.BoolNode.{BoolNode}
+use Rattle.laws.specs.Stretches.{All}
 use Rattle.circuit.specs.Refusals.{Try, and_then, need}
-use Rattle.circuit.specs.Records.{wire_word}
+use Rattle.circuit.specs.Records.{HasWord}
 use Rattle.text.specs.Numbers.{parse_usize}
 use Rattle.bristol_rows.specs.declared.answers.Widths.{Widths}
 use Rattle.bristol_rows.specs.declared.answers.Counts.{Counts}
@@ -121,15 +122,14 @@ InputsAre n wires ws us (Some slots) = Gathered n wires ws us slots
 
 -- ---- a row
 
--- the drivers of one or two inputs
+-- the drivers of n inputs, two at most
 abbrev pub drivers_of : ℕ → Slots → List BoolWire
-drivers_of n s = cond (eqb n 1) (driver_of_slot s.first ∷ []) (driver_of_slot s.first ∷ driver_of_slot s.second ∷ [])
+drivers_of n s = take n (driver_of_slot s.first ∷ driver_of_slot s.second ∷ [])
 
 -- a node, whose wires' words fit
 pub record CellIs (n r : BoolNode) : Type 0 where
   pub is : r ≡ n
-  pub first_fits : wire_word r.first < 2 ^ 64
-  pub second_fits : wire_word r.second < 2 ^ 64
+  pub wires_fit : All HasWord r.wires
 
 abbrev pub gate_of : Try Row → Try Gate
 gate_of (Err e) = Err e
@@ -140,7 +140,7 @@ gate_of (Ok (RowCell out n)) = Ok (cell out n)
 abbrev pub RowFits : ℕ → Try Row → Type 0
 RowFits m (Err e) = Unit
 RowFits m (Ok (RowAlias out w)) = (out.0 < m) × (slot_of_driver w < 2 ^ 64)
-RowFits m (Ok (RowCell out n)) = (out.0 < m) × (wire_word n.first < 2 ^ 64) × (wire_word n.second < 2 ^ 64)
+RowFits m (Ok (RowCell out n)) = (out.0 < m) × All HasWord n.wires
 
 pub record RowIs (m : ℕ) (x : Try Gate) (r : Try Row) : Type 0 where
   pub is : gate_of r ≡ x

@@ -7,7 +7,7 @@ use Rattle.circuit.specs.declared.records.BoolWire.{BoolWire}
 use Rattle.circuit.specs.declared.records.BoolNode.{BoolNode}
 use Rattle.circuit.specs.declared.records.Name.TheVariants.{Number}
 use Rattle.circuit.specs.Refusals.{Try, and_then, need}
-use Rattle.circuit.specs.Records.{no_wire}
+use Rattle.circuit.specs.Records.{no_wire, cell_node}
 use Rattle.bristol_rows.specs.declared.slots.TheConstants.{UNDRIVEN}
 use Rattle.bristol_rows.specs.Numbers.{number, each_number}
 use Rattle.bristol_rows.specs.Operation.{Op, same, table, operation}
@@ -25,13 +25,10 @@ pub data Gate : Type 0 where
   alias : WireNumber → BoolWire → Gate
   cell : WireNumber → BoolNode → Gate
 
--- "Cells are named by the letter w, an underscore and the wire number"; where there is no second input, its place holds the constant 0
-abbrev pub cell_node : WireNumber → ℕ → List BoolWire → BoolNode
-cell_node out t ds = record { kind = 2; count = length ds; table = t; name = Number out; first = get_or ds 0 no_wire; second = get_or ds 1 no_wire }
-
+-- what an operation makes of the wires that drive a row's inputs; a cell is named by the output wire
 abbrev pub gate : WireNumber → List BoolWire → Op → Gate
 gate out ds same = alias out (get_or ds 0 no_wire)
-gate out ds (table t) = cell out (cell_node out t ds)
+gate out ds (table t) = cell out (cell_node (Number out) t ds)
 
 -- "output wire 12, 13; undefined input 5": the output wire's word and the operation's, after the input wires
 unfoldable pub row_output : List ℕ → List ℕ → List (List ℕ) → Try Gate

@@ -3,7 +3,9 @@ ghost use Rattle.std.specs.Prelude.{◌≡◌, ◌<◌, length};
 ghost use Rattle.text.specs.Words.{split_whitespace};
 ghost use Rattle.text.specs.Numbers.{number_of};
 ghost use Rattle.bristol_rows.specs.Words.{words_left};
-ghost use Rattle.bristol_rows.specs.Row.{cell_node, row};
+ghost use Rattle.circuit.specs.declared.records.Name.TheVariants.{Number};
+ghost use Rattle.circuit.specs.Records.{cell_node};
+ghost use Rattle.bristol_rows.specs.Row.{row};
 ghost use Rattle.bristol_rows.specs.Promises.{add_slot, add_input, InputsAre, drivers_of, CellIs, RowIs, gate_by, output_by, end_by, wires_by, wrong_outputs};
 
 use crate::answers::{Inputs, Row, Slots};
@@ -11,7 +13,7 @@ use crate::numbers::{next_arity, read_number};
 use crate::operation::read_operation;
 use crate::slots::{UNDRIVEN, driver_of_slot, slot_of};
 use crate::words::{LineWords, count_words, split_whitespace};
-use circuit::records::{BoolNode, BoolWire, Name, WireNumber};
+use circuit::records::{BoolNode, Name, WireNumber};
 use circuit::refusals::Refusal;
 use text::numbers::parse_usize;
 
@@ -64,23 +66,16 @@ pub fn read_inputs(words: &mut LineWords, n: usize, wires: &[usize]) -> Option<S
     Some(slots)
 }
 
-/// The cell of a row with one or two inputs, named by its output wire.
-pub fn cell_node(out: WireNumber, table: usize, inputs: Inputs) -> BoolNode
-    ensures { CellIs (cell_node out table (drivers_of inputs.count inputs.slots)) result }
+/// The cell of a row, named by its output wire, on what drives its first inputs: no operation takes more than two.
+pub fn row_cell(out: WireNumber, table: usize, inputs: Inputs) -> BoolNode
+    ensures { CellIs (cell_node (Number out) table (drivers_of inputs.count inputs.slots)) result }
 {
-    let (count, second) = if inputs.count == 1 {
-        (1, BoolWire::Const(false))
-    } else {
-        (2, driver_of_slot(inputs.slots.second))
-    };
-    BoolNode {
-        kind: 2,
-        count,
-        table,
-        name: Name::Number(out),
-        first: driver_of_slot(inputs.slots.first),
-        second,
-    }
+    let drivers = [
+        driver_of_slot(inputs.slots.first),
+        driver_of_slot(inputs.slots.second),
+    ];
+    let count = inputs.count.min(drivers.len());
+    BoolNode::cell(Name::Number(out), table, &drivers[..count])
 }
 
 /// What a row makes by its operation, the wires being in order. `WrongCount` or `Unknown` if the operation does not take so
@@ -97,7 +92,7 @@ pub fn row_gate(op: &[u8], inputs: Inputs, out: WireNumber, wires: usize) -> Res
         },
         Some(table) => Row::Cell {
             out,
-            node: cell_node(out, table, inputs),
+            node: row_cell(out, table, inputs),
         },
     })
 }
