@@ -1,12 +1,11 @@
 -- The checks of a gate and of a declaration, in the code's order.
 -- Assumes nothing.
-use Rattle.std.specs.Prelude.{Err, None, Ok, Option, Some, is_some}
-use Prim.Native.Nat.{ℕ, ◌+◌, ◌≤◌, ◌<◌}
+use Rattle.std.specs.Prelude.{Err, None, Ok, Some}
+use Prim.Native.Nat.{ℕ, ◌<◌}
 use mathlib.Core.Path.{◌≡◌, refl}
-use mathlib.Core.Bool.{true, false}
+use mathlib.Core.Bool.{true}
 use mathlib.Core.List.{List, [], ◌∷◌}
 use native.Mathlib.Omega.{arith}
-use lib.ListN.{length}
 use borrow.Author.Tests.{lt-ltb}
 use Rattle.circuit.specs.declared.refusals.Refusal.{Refusal}
 use Rattle.circuit.specs.declared.refusals.Refusal.TheVariants.{DefinedBefore, WrongCount, Malformed}
@@ -15,8 +14,11 @@ use Rattle.circuit.proofs.Tries.{no_yes}
 use Rattle.text.specs.Words.{bytes_of}
 use Rattle.text.specs.declared.words.Word.{Word}
 use Rattle.names.specs.Names.{Entry}
-use Rattle.reading.specs.Reading.{Places, Held, find, unless_defined}
-use Rattle.reading.specs.Holding.{outcome}
+use Rattle.names.specs.Chains.{IsNew}
+use Rattle.names.specs.declared.NameTable.{NameTable}
+use Rattle.names.specs.declared.new_name.NewName.{NewName}
+use Rattle.reading.specs.Reading.{Places, Held, find}
+use Rattle.reading.specs.Holding.{outcome, entries_of}
 use Rattle.bench_invocations.specs.declared.invocation.Invocation.{Invocation}
 use Rattle.bench_invocations.specs.Invocations.{Invoked, arguments_of, parse_invocation}
 use Rattle.bench_invocations.specs.Walks.{invoked, NotedIn}
@@ -35,8 +37,8 @@ use Rattle.bench.specs.Plans.{planned, PlanIs, NamedIs}
 abbrev gate : Operation → List ℕ → Gate
 gate o xs = record { operation = o; inputs = xs }
 
-pub plan_refused : (t : List ℕ) (es : List Entry) (out : Word) (e : Refusal) (g : Try Gate) → Err e ≡ g → PlanIs t es out (Err e) g
-plan_refused t es out e g q = record { is = q; fits = tt }
+pub plan_refused : (t : NameTable) (out : Word) (e : Refusal) (g : Try Gate) → Err e ≡ g → PlanIs t out (Err e) g
+plan_refused t out e g q = record { is = q; fits = tt }
 
 module _ (t : List ℕ) (es : List Entry) (i : Invocation) where
   -- a gate's inputs, one of them without a driver
@@ -48,49 +50,42 @@ module _ (t : List ℕ) (es : List Entry) (i : Invocation) where
       go (Err g) h = let z : e ≡ g = cc in rw z
       go (Ok xs) h = absurd (no_yes h)
 
-  pub plan_made : NotedIn t i → (out : Word) → out.start + out.len ≤ length t → (o : Operation) → o ≡ operation_of (bytes_of t i.operation)
-      → (w : List ℕ) → Ok w ≡ outcome first_three (input_wires t es (arguments_of t i.inside))
-      → PlanIs t es out (Ok (record { out = out; operation = o; inside = i.inside; inputs = i.count; wires = w })) (gate_invoked t es (invoked t i))
-  unfolding gate_invoked
-  plan_made v out h o eo w q = record {
-    is = rw eo;
-    fits = record { out_is = refl; inside = h; driven = driven t es _ v.inside_in q v.count_is };
-  }
+pub plan_made : (t : NameTable) (i : Invocation) → NotedIn t.text.now i → (out : NewName) → IsNew t.text.now t.heads.now t.names.now t.count out
+    → (o : Operation) → o ≡ operation_of (bytes_of t.text.now i.operation)
+    → (w : List ℕ) → Ok w ≡ outcome first_three (input_wires t.text.now (entries_of t) (arguments_of t.text.now i.inside))
+    → PlanIs t out.word (Ok (record { out = out; operation = o; inside = i.inside; inputs = i.count; wires = w })) (gate_invoked t.text.now (entries_of t) (invoked t.text.now i))
+unfolding gate_invoked
+plan_made t i v out new o eo w q = record {
+  is = rw eo;
+  fits = record { out_is = refl; new = new; driven = driven t.text.now (entries_of t) _ v.inside_in q v.count_is };
+}
 
 module _ (t : List ℕ) (out expression : Word) (es : List Entry) where
   pub no_output : out.len ≡ 0 → Err Malformed ≡ gate_of t out expression es
   unfolding gate_of
   no_output z = rw z
 
-  module _ (nz : out.len ≡ 0 → ⊥) (f : Option ℕ) (e : f ≡ find true t out es) where
+  module _ (nz : out.len ≡ 0 → ⊥) where
     some : 0 < out.len
     some = omega arith
 
-    -- what the look-up of the output says of the gate
-    pub known_output : is_some f ≡ true → Err DefinedBefore ≡ gate_of t out expression es
+    -- what the search for the output says of the gate
+    pub known_output : (wire : ℕ) → find true t out es ≡ Some wire → Err DefinedBefore ≡ gate_of t out expression es
     unfolding gate_of
-    known_output q = rw (lt-ltb 0 out.len some, ← e) (go f q)
-      where
-        go : (g : Option ℕ) → is_some g ≡ true → Err DefinedBefore ≡ unless_defined g (and_then (parse_invocation t expression) (gate_invoked t es))
-        go (Some x) k = refl
-        go None k = absurd (cc)
+    known_output wire e = rw (lt-ltb 0 out.len some, e)
 
-    pub new_output : is_some f ≡ false → (r : Try Invoked) → r ≡ parse_invocation t expression → and_then r (gate_invoked t es) ≡ gate_of t out expression es
+    pub new_output : find true t out es ≡ None → (r : Try Invoked) → r ≡ parse_invocation t expression → and_then r (gate_invoked t es) ≡ gate_of t out expression es
     unfolding gate_of
-    new_output q r er = rw (lt-ltb 0 out.len some, ← e, er) (go f q)
-      where
-        go : (g : Option ℕ) → is_some g ≡ false → and_then (parse_invocation t expression) (gate_invoked t es) ≡ unless_defined g (and_then (parse_invocation t expression) (gate_invoked t es))
-        go (Some x) k = absurd (cc)
-        go None k = refl
+    new_output e r er = rw (lt-ltb 0 out.len some, e, er)
 
 module _ (t : List ℕ) (p : Places) (out expression : Word) (h : Held) where
-  pub gate_on : (r : Plan) → planned t h.names r ≡ gate_of t out expression h.names → out ≡ r.out
-      → and_then (input_wires t h.names (arguments_of t r.inside)) (λ xs. lower_gate p r.out r.operation xs h) ≡ gate_line t p out expression h
+  pub gate_on : (r : Plan) → planned t h.names r ≡ gate_of t out expression h.names → out ≡ r.out.word
+      → and_then (input_wires t h.names (arguments_of t r.inside)) (λ xs. lower_gate p r.out.word r.operation xs h) ≡ gate_line t p out expression h
   unfolding gate_line
   gate_on r q o = rw (← q, o) (go (input_wires t h.names (arguments_of t r.inside)))
     where
-      go : (x : Try (List ℕ)) → and_then x (λ xs. lower_gate p r.out r.operation xs h)
-          ≡ and_then (and_then x (λ xs. Ok (gate r.operation xs))) (λ g. lower_gate p r.out g.operation g.inputs h)
+      go : (x : Try (List ℕ)) → and_then x (λ xs. lower_gate p r.out.word r.operation xs h)
+          ≡ and_then (and_then x (λ xs. Ok (gate r.operation xs))) (λ g. lower_gate p r.out.word g.operation g.inputs h)
       go (Err e) = refl
       go (Ok xs) = refl
 

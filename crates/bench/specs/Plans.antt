@@ -6,10 +6,11 @@ use Rattle.circuit.specs.Refusals.{Try, and_then}
 use Rattle.text.specs.Lines.{lines}
 use Rattle.text.specs.declared.words.Word.{Word}
 use Rattle.names.specs.Names.{Entry}
-use Rattle.names.specs.Chains.{Table}
+use Rattle.names.specs.Chains.{Table, IsNew}
+use Rattle.names.specs.declared.NameTable.{NameTable}
 use Rattle.reading.specs.Reading.{Places, State, start, each, finish}
 use Rattle.reading.specs.declared.records.Reading.{Reading}
-use Rattle.reading.specs.Holding.{outcome, NodesHold, WordsHold, AreasHold}
+use Rattle.reading.specs.Holding.{outcome, entries_of, NodesHold, WordsHold, AreasHold}
 use Rattle.bench_invocations.specs.Invocations.{arguments_of}
 use Rattle.bench_gates.specs.declared.plans.Plan.{Plan}
 use Rattle.bench_gates.specs.Gates.{input_wires}
@@ -21,16 +22,16 @@ use Rattle.bench.specs.Bench.{Gate, Declared, read_line, bench_lines}
 abbrev pub planned : List ℕ → List Entry → Plan → Try Gate
 planned t es p = and_then (input_wires t es (arguments_of t p.inside)) (λ xs. Ok (record { operation = p.operation; inputs = xs }))
 
--- a plan for an output, in the text, whose inputs have drivers
-pub record PlanFits (t : List ℕ) (es : List Entry) (out : Word) (p : Plan) : Type 0 where
-  pub out_is : out ≡ p.out
-  pub inside : p.out.start + p.out.len ≤ length t
-  pub driven : Driven t es p
+-- a plan for an output, a new name of the table, whose inputs have drivers
+pub record PlanFits (t : NameTable) (out : Word) (p : Plan) : Type 0 where
+  pub out_is : out ≡ p.out.word
+  pub new : IsNew t.text.now t.heads.now t.names.now t.count p.out
+  pub driven : Driven t.text.now (entries_of t) p
 
 -- the plan of a gate, or the refusal
-pub record PlanIs (t : List ℕ) (es : List Entry) (out : Word) (r : Try Plan) (g : Try Gate) : Type 0 where
-  pub is : and_then r (planned t es) ≡ g
-  pub fits : IfOk r (PlanFits t es out)
+pub record PlanIs (t : NameTable) (out : Word) (r : Try Plan) (g : Try Gate) : Type 0 where
+  pub is : and_then r (planned t.text.now (entries_of t)) ≡ g
+  pub fits : IfOk r (PlanFits t out)
 
 -- what is declared, as the definition has it
 abbrev pub declared_as : Named → Declared

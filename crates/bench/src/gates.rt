@@ -1,29 +1,30 @@
 // A line with `=`: a gate.
 ghost use Rattle.std.specs.Prelude.{◌+◌, ◌≤◌, length};
 ghost use Rattle.text.specs.Blanks.{trimmed};
+ghost use Rattle.names.specs.Chains.{IsNew};
 ghost use Rattle.reading.specs.Holding.{entries_of, NamedNodesHold, NamedNodesHoldAfter, HeldStep};
 ghost use Rattle.bench_invocations.specs.Walks.{invoked, NotedIn};
 ghost use Rattle.bench.specs.Bench.{gate_invoked, gate_of, gate_line};
 ghost use Rattle.bench.specs.Plans.{PlanIs};
 
 use bench_gates::gates::lower_bench_gate;
-use bench_gates::inputs::{find_wire, input_wires};
+use bench_gates::inputs::{input_wires, search_wire};
 use bench_gates::operations::operation_of;
 use bench_gates::plans::Plan;
 use bench_invocations::invocation::{Invocation, parse_bench_invocation};
 use circuit::refusals::Refusal;
 use names::NameTable;
+use names::new_name::NewName;
 use reading::records::Counts;
 use text::words::{Word, trim};
 
 // A gate with a new output and its invocation: 5.
 #[tactic(auto, using(crate::proofs::Planning::plan_refused, crate::proofs::Planning::inputs_refused, crate::proofs::Planning::plan_made))]
-pub fn plan_inputs(table: &NameTable, out: Word, invocation: Invocation) -> Result<Plan, Refusal>
-    requires out_in_text { out.start + out.len ≤ length table.now.text.now }
+pub fn plan_inputs(table: &NameTable, out: NewName, invocation: Invocation) -> Result<Plan, Refusal>
+    requires new { IsNew table.now.text.now table.now.heads.now table.now.names.now table.now.count out }
     requires noted { NotedIn table.now.text.now invocation }
     ensures { let t = table.now.text.now in
-        let es = entries_of table.now in
-        PlanIs t es out result (gate_invoked t es (invoked t invocation)) }
+        PlanIs table.now out.word result (gate_invoked t (entries_of table.now) (invoked t invocation)) }
 {
     let wires = input_wires(table, invocation.inside)?;
     Ok(Plan {
@@ -41,18 +42,17 @@ pub fn plan_gate(table: &NameTable, before: Word, after: Word) -> Result<Plan, R
     requires before_in_text { before.start + before.len ≤ length table.now.text.now }
     requires after_in_text { after.start + after.len ≤ length table.now.text.now }
     ensures { let t = table.now.text.now in
-        let es = entries_of table.now in
-        PlanIs t es (trimmed t before) result (gate_of t (trimmed t before) after es) }
+        PlanIs table.now (trimmed t before) result (gate_of t (trimmed t before) after (entries_of table.now)) }
 {
     let out = trim(table.text, before);
     if out.len == 0 {
         return Err(Refusal::Malformed);
     }
-    if find_wire(table, out).is_some() {
+    let Err(new) = search_wire(table, out) else {
         return Err(Refusal::DefinedBefore);
-    }
+    };
     let invocation = parse_bench_invocation(table.text, after)?;
-    plan_inputs(table, out, invocation)
+    plan_inputs(table, new, invocation)
 }
 
 // A gate: all checks, then its nodes and its name.

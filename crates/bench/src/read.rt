@@ -7,6 +7,7 @@ use bench_gates::inputs;
 use circuit::records::Sizes;
 use circuit::refusals::Refusal;
 use names::NameTable;
+use names::new_name::NewName;
 use reading::format::{Names, parse};
 use text::words::Word;
 
@@ -16,8 +17,8 @@ pub struct Bench;
 impl Names for Bench {
     ghost constants = { true };
 
-    fn find_wire(table: &NameTable, word: Word) -> Option<usize> {
-        inputs::find_wire(table, word)
+    fn search(table: &NameTable, word: Word) -> Result<usize, NewName> {
+        inputs::search_wire(table, word)
     }
 }
 

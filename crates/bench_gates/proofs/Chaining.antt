@@ -51,7 +51,7 @@ module _ (t : List ℕ) (es : List Entry) (q : Plan) (o : Binary) (p : Places) w
 
     -- an input with one, and the step before it
     step_made : (z : ℕ) → Ok z ≡ driver (find true t w es) → (new : List ℕ) (r : Try Chained)
-        → outcome (λ d. nodes_of new d.nodes) r ≡ add_node p.nodes (step_cell q.out o k c.signal c.next) (nodes_of ns c.nodes)
+        → outcome (λ d. nodes_of new d.nodes) r ≡ add_node p.nodes (step_cell q.out.word o k c.signal c.next) (nodes_of ns c.nodes)
         → IfOk r (λ d. (d.signal ≡ wire_word (Node (record { 0 = c.nodes }))) × (d.next ≡ z))
         → and_then r (λ d. rest_of t es q o p (k + 1) new d ws) ≡ rest_of t es q o p k ns c (w ∷ ws)
     unfolding chain_words
@@ -59,22 +59,22 @@ module _ (t : List ℕ) (es : List Entry) (q : Plan) (o : Binary) (p : Places) w
     step_made z f new (Ok d) a b = rw (← f, ← a, length_nodes ns c.nodes, b.0, b.1, add-one k)
 
   -- the chain of the wires, where each input has one
-  words_made : (k x y : ℕ) (ws : List Word) (xs : List ℕ) (ns : List BoolNode) → input_wires t es ws ≡ Ok xs → chain_words t p q.out o k x y ws (with_nodes ns es) ≡ chain p q.out o k x (y ∷ xs) (with_nodes ns es)
+  words_made : (k x y : ℕ) (ws : List Word) (xs : List ℕ) (ns : List BoolNode) → input_wires t es ws ≡ Ok xs → chain_words t p q.out.word o k x y ws (with_nodes ns es) ≡ chain p q.out.word o k x (y ∷ xs) (with_nodes ns es)
   unfolding chain_words chain
   words_made k x y [] xs ns e = rw (no_inputs t es xs e)
   words_made k x y (w ∷ ws) xs ns e =
       let i = inputs_each t es w ws xs e in
-      subst (λ (l : List ℕ). chain_words t p q.out o k x y (w ∷ ws) (with_nodes ns es) ≡ chain p q.out o k x (y ∷ l) (with_nodes ns es)) (sym i.all_are)
-      (rw i.first_is (each_then (add_node p.nodes (step_cell q.out o k x y) ns) _ _ (λ ms. words_made (suc k) (next_wire ns) i.wire ws i.rest ms i.rest_are)))
+      subst (λ (l : List ℕ). chain_words t p q.out.word o k x y (w ∷ ws) (with_nodes ns es) ≡ chain p q.out.word o k x (y ∷ l) (with_nodes ns es)) (sym i.all_are)
+      (rw i.first_is (each_then (add_node p.nodes (step_cell q.out.word o k x y) ns) _ _ (λ ms. words_made (suc k) (next_wire ns) i.wire ws i.rest ms i.rest_are)))
 
   -- what the wires of a gate of two inputs or more give, from the first two on
-  pub gate_made : Driven t es q → 2 ≤ q.inputs → (ns : List BoolNode) → chain_words t p q.out o 1 (get_or q.wires 0 0) (get_or q.wires 1 0) (drop 2 (arguments_of t q.inside)) (with_nodes ns es)
-      ≡ and_then (input_wires t es (arguments_of t q.inside)) (λ xs. chained p q.out o xs (with_nodes ns es))
+  pub gate_made : Driven t es q → 2 ≤ q.inputs → (ns : List BoolNode) → chain_words t p q.out.word o 1 (get_or q.wires 0 0) (get_or q.wires 1 0) (drop 2 (arguments_of t q.inside)) (with_nodes ns es)
+      ≡ and_then (input_wires t es (arguments_of t q.inside)) (λ xs. chained p q.out.word o xs (with_nodes ns es))
   unfolding chained
   gate_made d two ns = rw (d.are, d.firsts) (go d.wires d.are (omega (arith, two, d.count_is, inputs-length t es (arguments_of t q.inside) d.wires d.are)))
     where
       go : (xs : List ℕ) → input_wires t es (arguments_of t q.inside) ≡ Ok xs → 2 ≤ length xs
-          → chain_words t p q.out o 1 (get_or xs 0 0) (get_or xs 1 0) (drop 2 (arguments_of t q.inside)) (with_nodes ns es) ≡ chained p q.out o xs (with_nodes ns es)
+          → chain_words t p q.out.word o 1 (get_or xs 0 0) (get_or xs 1 0) (drop 2 (arguments_of t q.inside)) (with_nodes ns es) ≡ chained p q.out.word o xs (with_nodes ns es)
       go [] e l = absurd (omega arith)
       go (x ∷ []) e l = absurd (omega arith)
       go (x ∷ y ∷ zs) e l = words_made 1 x y (drop 2 (arguments_of t q.inside)) zs ns (inputs_drop t es 2 (arguments_of t q.inside) (x ∷ y ∷ zs) e)
@@ -152,7 +152,7 @@ module _ {t : List ℕ} {es : List Entry} {q : Plan} {o : Binary} {words : ℕ} 
 
       -- an input with one, and the step before it
       module _ (z : ℕ) (f : Ok z ≡ driver (find true t w es)) (new : List ℕ) where
-        pub stepping_refused : (e : Refusal) → Err e ≡ add_node (capacity 9 words) (step_cell q.out o (n + 1) c.signal c.next) (nodes_of ns c.nodes) → NodesHold new c.nodes → StepsAre t es q o words old first new (Err e)
+        pub stepping_refused : (e : Refusal) → Err e ≡ add_node (capacity 9 words) (step_cell q.out.word o (n + 1) c.signal c.next) (nodes_of ns c.nodes) → NodesHold new c.nodes → StepsAre t es q o words old first new (Err e)
         stepping_refused e a k =
             let g = turn s u h.coming w h.given p in
             record {
@@ -160,7 +160,7 @@ module _ {t : List ℕ} {es : List Entry} {q : Plan} {o : Binary} {words : ℕ} 
               area = (c.nodes, k);
             }
 
-        pub stepping_on : (d : Chained) → Ok (nodes_of new d.nodes) ≡ add_node (capacity 9 words) (step_cell q.out o (n + 1) c.signal c.next) (nodes_of ns c.nodes)
+        pub stepping_on : (d : Chained) → Ok (nodes_of new d.nodes) ≡ add_node (capacity 9 words) (step_cell q.out.word o (n + 1) c.signal c.next) (nodes_of ns c.nodes)
             → (d.signal ≡ wire_word (Node (record { 0 = c.nodes }))) × (d.next ≡ z) → NodesHold new d.nodes → Stepping t es q o words old first u (n + 1) new d
         stepping_on d a b k =
             let g = turn s u h.coming w h.given p in

@@ -1,23 +1,47 @@
 -- Whether each input has a driver.
 -- Assumes nothing.
-use Rattle.std.specs.Prelude.{Err, Ok}
+use Rattle.std.specs.Prelude.{Err, Ok, None, Option, Some}
+use Rattle.std.proofs.lemmas.Option.{none-some}
 use Prim.Native.Nat.{ℕ, zero, suc, ◌+◌, ◌≤◌, ◌<◌}
 use mathlib.Core.Path.{◌≡◌, refl, sym, ap, ◌∙◌}
-use mathlib.Core.Bool.{true}
+use mathlib.Core.Bool.{Bool, true, false, cond}
 use mathlib.Core.List.{List, [], ◌∷◌, ◌++◌, append_assoc, append-nil}
 use native.Mathlib.Omega.{arith}
 use lib.ListN.{length, set, drop, length-append}
 use Rattle.circuit.specs.declared.refusals.Refusal.{Refusal}
 use Rattle.circuit.specs.Refusals.{Try, and_then}
 use Rattle.circuit.proofs.Tries.{no_yes, yes_same, then_yes}
+use Rattle.laws.specs.Stretches.{same_bytes}
+use Rattle.text.specs.Words.{bytes_of}
 use Rattle.text.specs.declared.words.Word.{Word}
-use Rattle.names.specs.Names.{Entry}
+use Rattle.names.specs.Names.{Entry, lookup}
 use Rattle.reading.specs.Reading.{find, driver}
 use Rattle.reading.specs.Holding.{outcome}
 use Rattle.bench_invocations.specs.Invocations.{arguments_of}
 use Rattle.bench_gates.specs.Gates.{input_wires}
 use Rattle.bench_gates.specs.declared.plans.Plan.{Plan}
 use Rattle.bench_gates.specs.Walks.{first_three, Driven}
+
+-- ---- a constant's wire, and a name's
+
+module _ (t : List ℕ) (w : Word) (es : List Entry) where
+  pub find_constant : (x : ℕ) → find true t w [] ≡ Some x → find true t w es ≡ Some x
+  unfolding find lookup
+  find_constant x = go (same_bytes (bytes_of t w) (70 ∷ 65 ∷ 76 ∷ 83 ∷ 69 ∷ [])) (same_bytes (bytes_of t w) (84 ∷ 82 ∷ 85 ∷ 69 ∷ []))
+    where
+      go : (a b : Bool) → cond {A = Option ℕ} a (Some 0) (cond b (Some 1) None) ≡ Some x → cond a (Some 0) (cond b (Some 1) (lookup t (bytes_of t w) es)) ≡ Some x
+      go true b e = e
+      go false true e = e
+      go false false e = absurd (none-some x e)
+
+  pub find_defined : find true t w [] ≡ None → find true t w es ≡ lookup t (bytes_of t w) es
+  unfolding find lookup
+  find_defined = go (same_bytes (bytes_of t w) (70 ∷ 65 ∷ 76 ∷ 83 ∷ 69 ∷ [])) (same_bytes (bytes_of t w) (84 ∷ 82 ∷ 85 ∷ 69 ∷ []))
+    where
+      go : (a b : Bool) → cond {A = Option ℕ} a (Some 0) (cond b (Some 1) None) ≡ None → cond a (Some 0) (cond b (Some 1) (lookup t (bytes_of t w) es)) ≡ lookup t (bytes_of t w) es
+      go true b e = absurd (none-some 0 (sym e))
+      go false true e = absurd (none-some 1 (sym e))
+      go false false e = refl
 
 -- ---- the wires of inputs
 

@@ -60,15 +60,15 @@ module _ (t : List ℕ) (es : List Entry) (q : Plan) (d : Driven t es q) where
 
   module _ (p : Places) (ns : List BoolNode) where
     abbrev Gate : Try Held
-    Gate = With (λ xs. lower_gate p q.out q.operation xs (with_nodes ns es))
+    Gate = With (λ xs. lower_gate p q.out.word q.operation xs (with_nodes ns es))
 
     -- the names of a buffer, with the nodes as they were
-    pub buffered : q.operation ≡ Buf → (r : Try (List Entry)) → r ≡ if_one q.inputs (add_name p.names q.out (get_or q.wires 0 0) es) → with_names ns r ≡ Gate
-    buffered b r e = rw b (ap (with_names ns) (e ∙ one_kept (λ x. add_name p.names q.out x es)) ∙ rw d.are (buffer p q.out (with_nodes ns es) d.wires))
+    pub buffered : q.operation ≡ Buf → (r : Try (List Entry)) → r ≡ if_one q.inputs (add_name p.names q.out.word (get_or q.wires 0 0) es) → with_names ns r ≡ Gate
+    buffered b r e = rw b (ap (with_names ns) (e ∙ one_kept (λ x. add_name p.names q.out.word x es)) ∙ rw d.are (buffer p q.out.word (with_nodes ns es) d.wires))
 
-    pub inverted : q.operation ≡ Not → (r : Try Held) → r ≡ if_one q.inputs (add_named p q.out (inverter q.out (get_or q.wires 0 0)) (with_nodes ns es)) → r ≡ Gate
+    pub inverted : q.operation ≡ Not → (r : Try Held) → r ≡ if_one q.inputs (add_named p q.out.word (inverter q.out.word (get_or q.wires 0 0)) (with_nodes ns es)) → r ≡ Gate
     unfolding lower_gate
-    inverted b r e = rw b (e ∙ one_kept (λ x. add_named p q.out (inverter q.out x) (with_nodes ns es)))
+    inverted b r e = rw b (e ∙ one_kept (λ x. add_named p q.out.word (inverter q.out.word x) (with_nodes ns es)))
 
     pub unknown : q.operation ≡ Other → Err Unknown ≡ Gate
     unfolding lower_gate
@@ -76,24 +76,24 @@ module _ (t : List ℕ) (es : List Entry) (q : Plan) (d : Driven t es q) where
 
     module _ (o : Binary) where
       abbrev Chained : Try Held
-      Chained = With (λ xs. lower_gate p q.out (Chain o) xs (with_nodes ns es))
+      Chained = With (λ xs. lower_gate p q.out.word (Chain o) xs (with_nodes ns es))
 
       pub too_few : q.inputs < 2 → Err WrongCount ≡ Chained
-      too_few l = rw d.are (few p q.out o (with_nodes ns es) d.wires (omega (arith, number)))
+      too_few l = rw d.are (few p q.out.word o (with_nodes ns es) d.wires (omega (arith, number)))
 
-      pub many_made : q.operation ≡ Chain o → (r : Try Held) → r ≡ With (λ xs. chained p q.out o xs (with_nodes ns es)) → r ≡ Gate
+      pub many_made : q.operation ≡ Chain o → (r : Try Held) → r ≡ With (λ xs. chained p q.out.word o xs (with_nodes ns es)) → r ≡ Gate
       unfolding lower_gate
       many_made b r e = rw b e
 
       -- a gate of at most three inputs is the chain of the kept wires
-      kept_made : q.inputs ≤ 3 → chained p q.out o (take q.inputs q.wires) (with_nodes ns es) ≡ Chained
+      kept_made : q.inputs ≤ 3 → chained p q.out.word o (take q.inputs q.wires) (with_nodes ns es) ≡ Chained
       unfolding lower_gate
-      kept_made most = rw (d.are, ← number, d.firsts) (ap (λ (xs : List ℕ). chained p q.out o xs (with_nodes ns es)) (all_kept d.wires (omega (arith, number))))
+      kept_made most = rw (d.are, ← number, d.firsts) (ap (λ (xs : List ℕ). chained p q.out.word o xs (with_nodes ns es)) (all_kept d.wires (omega (arith, number))))
 
-      pub pair_made : q.inputs ≡ 2 → add_named p q.out (last_cell q.out o (get_or q.wires 0 0) (get_or q.wires 1 0)) (with_nodes ns es) ≡ Chained
+      pub pair_made : q.inputs ≡ 2 → add_named p q.out.word (last_cell q.out.word o (get_or q.wires 0 0) (get_or q.wires 1 0)) (with_nodes ns es) ≡ Chained
       unfolding chained chain
       pair_made two = rw d.firsts (rw (two, d.firsts) at (kept_made (omega arith)))
 
-      pub triple_made : q.inputs ≡ 3 → chain p q.out o 1 (get_or q.wires 0 0) (get_or q.wires 1 0 ∷ get_or q.wires 2 0 ∷ []) (with_nodes ns es) ≡ Chained
+      pub triple_made : q.inputs ≡ 3 → chain p q.out.word o 1 (get_or q.wires 0 0) (get_or q.wires 1 0 ∷ get_or q.wires 2 0 ∷ []) (with_nodes ns es) ≡ Chained
       unfolding chained
       triple_made three = rw d.firsts (rw (three, d.firsts) at (kept_made (omega arith)))

@@ -32,11 +32,11 @@ if_one inputs r = cond (eqb inputs 1) r (Err WrongCount)
 
 -- what a plan's gate adds if it is a buffer, by its one input's kept wire
 abbrev pub buffer_planned : Plan → ℕ → List Entry → Try (List Entry)
-buffer_planned q room es = if_one q.inputs (add_name room q.out (get_or q.wires 0 0) es)
+buffer_planned q room es = if_one q.inputs (add_name room q.out.word (get_or q.wires 0 0) es)
 
 -- the same of an inverter
 abbrev pub inverter_planned : Plan → Places → Held → Try Held
-inverter_planned q p h = if_one q.inputs (add_named p q.out (inverter q.out (get_or q.wires 0 0)) h)
+inverter_planned q p h = if_one q.inputs (add_named p q.out.word (inverter q.out.word (get_or q.wires 0 0)) h)
 
 -- `chain` from step k on, with two wires at hand and those of the inputs after them looked up as they come
 unfoldable pub chain_words : List ℕ → Places → Word → Binary → ℕ → ℕ → ℕ → List Word → Held → Try Held
@@ -48,17 +48,17 @@ chain_words t p out o k x y (w ∷ ws) h =
 
 -- a plan's chain, whatever the number of its inputs
 abbrev pub chain_planned : List ℕ → Plan → Binary → Places → Held → Try Held
-chain_planned t q o p h = chain_words t p q.out o 1 (get_or q.wires 0 0) (get_or q.wires 1 0) (drop 2 (arguments_of t q.inside)) h
+chain_planned t q o p h = chain_words t p q.out.word o 1 (get_or q.wires 0 0) (get_or q.wires 1 0) (drop 2 (arguments_of t q.inside)) h
 
 -- a plan's gate, by the wires of all its inputs
 abbrev pub gate_planned : List ℕ → Plan → Places → Held → Try Held
-gate_planned t q p h = and_then (input_wires t h.names (arguments_of t q.inside)) (λ xs. lower_gate p q.out q.operation xs h)
+gate_planned t q p h = and_then (input_wires t h.names (arguments_of t q.inside)) (λ xs. lower_gate p q.out.word q.operation xs h)
 
 -- what a gate's chain gives that is made up to step k, with the inputs that are still to come
 abbrev pub rest_of : List ℕ → List Entry → Plan → Binary → Places → ℕ → List ℕ → Chained → List Word → Try Held
-rest_of t es q o p k ns c ws = chain_words t p q.out o k c.signal c.next ws (with_nodes (nodes_of ns c.nodes) es)
+rest_of t es q o p k ns c ws = chain_words t p q.out.word o k c.signal c.next ws (with_nodes (nodes_of ns c.nodes) es)
 
 -- the steps of a gate but the last, an input after the second for each: the last cell then gives what the whole chain gives, for nodes of so many words and any other areas
 pub record StepsAre (t : List ℕ) (es : List Entry) (q : Plan) (o : Binary) (words : ℕ) (old : List ℕ) (c : Chained) (new : List ℕ) (r : Try Chained) : Type 0 where
-  pub are : (m l : ℕ) → and_then r (λ d. add_named (places_in words m l) q.out (last_cell q.out o d.signal d.next) (with_nodes (nodes_of new d.nodes) es)) ≡ rest_of t es q o (places_in words m l) 1 old c (drop 2 (arguments_of t q.inside))
+  pub are : (m l : ℕ) → and_then r (λ d. add_named (places_in words m l) q.out.word (last_cell q.out.word o d.signal d.next) (with_nodes (nodes_of new d.nodes) es)) ≡ rest_of t es q o (places_in words m l) 1 old c (drop 2 (arguments_of t q.inside))
   pub area : NodesHoldAfter new (outcome (λ d. d.nodes) r)

@@ -98,7 +98,7 @@ pub fn chain_steps(
     let mut chained = first;
     for (k, argument) in arguments_of(table.text, plan.inside).skip(2).enumerate() {
         let wire = argument_wire(table, argument)?;
-        chained = chain_step(plan.out, operation, k + 1, chained, wire, nodes)?;
+        chained = chain_step(plan.out.word, operation, k + 1, chained, wire, nodes)?;
     }
     Ok(chained)
 }

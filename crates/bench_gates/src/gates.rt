@@ -1,7 +1,7 @@
 // A gate whose inputs have drivers: the nodes and the name that it adds.
 ghost use Rattle.std.specs.Prelude.{◌+◌, ◌≤◌, length};
 ghost use Rattle.std.specs.Result.{result_unwrap_or};
-ghost use Rattle.names.specs.Chains.{entries, Table};
+ghost use Rattle.names.specs.Chains.{entries, Table, IsNew};
 ghost use Rattle.reading.specs.Holding.{NamedNodesHold, NamedNodesHoldAfter, NamesStep, HeldStep};
 ghost use Rattle.bench_gates.specs.Walks.{Driven, buffer_planned, inverter_planned, chain_planned, gate_planned};
 
@@ -22,7 +22,7 @@ pub fn lower_buffer(
     names: &mut [usize],
 ) -> Result<usize, Refusal>
     requires table { Table text.now heads.old names.old count }
-    requires word_in_text { plan.out.start + plan.out.len ≤ length text.now }
+    requires new { IsNew text.now heads.old names.old count plan.out }
     ensures table { Table text.now heads.new names.new (result_unwrap_or result count) }
     ensures step { NamesStep (buffer_planned plan) names.old count names.new result }
 {
@@ -42,14 +42,14 @@ pub fn lower_inverter(
     names: &mut [usize],
 ) -> Result<Counts, Refusal>
     requires areas { NamedNodesHold text.now heads.old nodes.old names.old counts }
-    requires word_in_text { plan.out.start + plan.out.len ≤ length text.now }
+    requires new { IsNew text.now heads.old names.old counts.names plan.out }
     ensures areas { NamedNodesHoldAfter text.now heads.new nodes.new names.new result }
     ensures step { HeldStep (inverter_planned plan) nodes.old names.old counts nodes.new names.new result }
 {
     if plan.inputs != 1 {
         return Err(Refusal::WrongCount);
     }
-    let node = word_cell(stretch_name(plan.out), NOT_TABLE, &[plan.wires[0]]);
+    let node = word_cell(stretch_name(plan.out.word), NOT_TABLE, &[plan.wires[0]]);
     add_named(text, plan.out, node, counts, heads, nodes, names)
 }
 
@@ -64,7 +64,7 @@ pub fn chain_many(
     names: &mut [usize],
 ) -> Result<Counts, Refusal>
     requires areas { NamedNodesHold text.now heads.old nodes.old names.old counts }
-    requires word_in_text { plan.out.start + plan.out.len ≤ length text.now }
+    requires new { IsNew text.now heads.old names.old counts.names plan.out }
     requires inside_in_text { plan.inside.start + plan.inside.len ≤ length text.now }
     ensures areas { NamedNodesHoldAfter text.now heads.new nodes.new names.new result }
     ensures step { HeldStep (chain_planned text.now plan operation)
@@ -110,7 +110,7 @@ pub fn lower_bench_gate(
     names: &mut [usize],
 ) -> Result<Counts, Refusal>
     requires areas { NamedNodesHold text.now heads.old nodes.old names.old counts }
-    requires word_in_text { plan.out.start + plan.out.len ≤ length text.now }
+    requires new { IsNew text.now heads.old names.old counts.names plan.out }
     requires driven { Driven text.now (entries names.old counts.names) plan }
     ensures areas { NamedNodesHoldAfter text.now heads.new nodes.new names.new result }
     ensures step { HeldStep (gate_planned text.now plan) nodes.old names.old counts nodes.new names.new result }

@@ -1,7 +1,7 @@
 // The inputs of a gate: the wires of its arguments, one after the other.
-ghost use Rattle.std.specs.Prelude.{◌≡◌, true, ◌+◌, ◌≤◌, length};
+ghost use Rattle.std.specs.Prelude.{◌≡◌, true, [], ◌+◌, ◌≤◌, length};
 ghost use Rattle.reading.specs.Reading.{find, driver};
-ghost use Rattle.reading.specs.Holding.{outcome, entries_of};
+ghost use Rattle.reading.specs.Holding.{outcome, entries_of, WordSearch};
 ghost use Rattle.bench_invocations.specs.Invocations.{arguments_of};
 ghost use Rattle.bench_gates.specs.Gates.{input_wires};
 ghost use Rattle.bench_gates.specs.Walks.{first_three};
@@ -9,21 +9,45 @@ ghost use Rattle.bench_gates.specs.Walks.{first_three};
 use bench_invocations::iterators::arguments_of;
 use circuit::refusals::Refusal;
 use names::NameTable;
+use names::new_name::NewName;
 use text::words::Word;
 
-// The wire's word of a name: `FALSE` and `TRUE` are defined first.
-#[tactic(auto, using(text::proofs::ByteLaws::same_pointwise), unfolding(reading::specs::Reading::find, laws::specs::Stretches::stretch))]
-pub fn find_wire(table: &NameTable, word: Word) -> Option<usize>
-    requires { word.start + word.len ≤ length table.now.text.now }
-    ensures { result ≡ find true table.now.text.now word (entries_of table.now) }
+/// The wire's word of `FALSE` or `TRUE`, which are defined before any name of the text.
+#[tactic(auto, using(text::proofs::ByteLaws::same_pointwise), unfolding(reading::specs::Reading::find, names::specs::Names::lookup, laws::specs::Stretches::stretch))]
+pub fn constant_wire(text: &[u8], word: Word) -> Option<usize>
+    requires { word.start + word.len ≤ length text.now }
+    ensures { result ≡ find true text.now word [] }
 {
-    let name = word.bytes(table.text);
+    let name = word.bytes(text);
     if name == b"FALSE".as_slice() {
         Some(0)
     } else if name == b"TRUE".as_slice() {
         Some(1)
     } else {
-        table.find(word)
+        None
+    }
+}
+
+/// The wire's word of a name, if it is defined.
+#[tactic(auto, using(crate::proofs::Drivers::find_constant, crate::proofs::Drivers::find_defined))]
+pub fn find_wire(table: &NameTable, word: Word) -> Option<usize>
+    requires { word.start + word.len ≤ length table.now.text.now }
+    ensures { result ≡ find true table.now.text.now word (entries_of table.now) }
+{
+    match constant_wire(table.text, word) {
+        Some(wire) => Some(wire),
+        None => table.find(word),
+    }
+}
+
+/// The wire's word of a name; if it is not defined, the name with the place where a record of it would hang.
+pub fn search_wire(table: &NameTable, word: Word) -> Result<usize, NewName>
+    requires { word.start + word.len ≤ length table.now.text.now }
+    ensures { WordSearch true table.now word result }
+{
+    match constant_wire(table.text, word) {
+        Some(wire) => Ok(wire),
+        None => table.search(word),
     }
 }
 

@@ -1,7 +1,6 @@
 -- Laws of gates: the words of a gate and its plan are the definition's.
 -- Assumes nothing.
 use Rattle.std.specs.Prelude.{Err, None, Ok, Option, Some, MatchOption}
-use Rattle.std.specs.Option.{is_some}
 use Rattle.std.specs.List.{fold}
 use Prim.Native.Nat.{ℕ, ◌<◌}
 use mathlib.Core.Path.{◌≡◌, refl, sym, ap, ◌∙◌}
@@ -71,26 +70,17 @@ names_of i ns h k e = rw e at h
 more_names : (i : Option (Inputs Word)) (ns : List Word) → MatchOption i (2 < length ns) (λ k. listed k ≡ ns) → i ≡ None → 2 < length ns
 more_names i ns h e = rw e at h
 
-some_found : (k : Option ℕ) → true ≡ is_some k → (n : ℕ) × (k ≡ Some n)
-some_found (Some n) e = (n, refl)
-some_found None e = cc
-
-none_found : (k : Option ℕ) → false ≡ is_some k → k ≡ None
-none_found (Some n) e = cc
-none_found None e = refl
-
-module _ (t : List ℕ) (ws : List Word) (rows : List (List Word)) (es : List Entry) (g : Gate) (is : Some g ≡ gate_of ws) (k : Option ℕ) (ek : k ≡ lookup t (bytes_of t g.out) es) where
-  pub plan_known : true ≡ is_some k → Err DefinedBefore ≡ plan t ws rows es
+module _ (t : List ℕ) (ws : List Word) (rows : List (List Word)) (es : List Entry) (g : Gate) (is : Some g ≡ gate_of ws) where
+  pub plan_known : (wire : ℕ) → lookup t (bytes_of t g.out) es ≡ Some wire → Err DefinedBefore ≡ plan t ws rows es
   unfolding plan
-  plan_known e =
+  plan_known wire e =
       let h = has_words ws g is in
-      let n = some_found k e in
-      let f : find false t g.out es ≡ Some n.0 = sym (find_plain t g.out es) ∙ sym ek ∙ n.1 in
+      let f : find false t g.out es ≡ Some wire = sym (find_plain t g.out es) ∙ e in
       rw (h.are, ← h.out, f)
 
-  module _ (e : false ≡ is_some k) where
+  module _ (e : lookup t (bytes_of t g.out) es ≡ None) where
     new : find false t g.out es ≡ None
-    new = sym (find_plain t g.out es) ∙ sym ek ∙ none_found k e
+    new = sym (find_plain t g.out es) ∙ e
 
     pub plan_many : g.inputs ≡ None → Err WrongCount ≡ plan t ws rows es
     unfolding plan

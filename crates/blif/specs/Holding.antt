@@ -1,11 +1,13 @@
 -- A gate as the code plans it, and BLIF as a format.
 -- Assumes nothing.
-use Rattle.std.specs.Prelude.{ℕ, ◌+◌, ◌≤◌, ◌≡◌, false, List, length, IfOk}
+use Rattle.std.specs.Prelude.{ℕ, ◌≡◌, false, List, IfOk}
 use mathlib.Core.Path.{refl}
 use Rattle.circuit.specs.Refusals.{Try, and_then}
 use Rattle.text.specs.Lines.{lines, line_words}
 use Rattle.text.specs.declared.words.Word.{Word}
 use Rattle.names.specs.Names.{Entry}
+use Rattle.names.specs.Chains.{IsNew}
+use Rattle.names.specs.declared.NameTable.{NameTable}
 use Rattle.cover.specs.declared.directives.Directive.{Directive}
 use Rattle.cover.specs.Gates.{listed}
 use Rattle.cover.specs.Rows.{rows_from}
@@ -15,16 +17,16 @@ use Rattle.blif.specs.declared.gates.Planned.{Planned}
 use Rattle.blif.specs.Blif.{Plan, directive_step, read_lines, blif_lines}
 
 abbrev pub planned : Planned → Plan
-planned p = record { out = p.out; wires = listed p.wires; table = p.table }
+planned p = record { out = p.out.word; wires = listed p.wires; table = p.table }
 
 -- the wire of an input word
 abbrev pub driver_of : List ℕ → List Entry → Word → Try ℕ
 driver_of t es w = driver (find false t w es)
 
--- what planning answers: the plan, whose output word is in the text, or its refusal
-pub record PlanIs (t : List ℕ) (r : Try Planned) (o : Try Plan) : Type 0 where
+-- what planning answers: the plan, whose output is a new name of the table, or its refusal
+pub record PlanIs (t : NameTable) (r : Try Planned) (o : Try Plan) : Type 0 where
   pub is : outcome planned r ≡ o
-  pub inside : IfOk r (λ p. p.out.start + p.out.len ≤ length t)
+  pub new : IfOk r (λ p. IsNew t.text.now t.heads.now t.names.now t.count p.out)
 
 -- a directive with the stretch after it, and the rows from a place on
 abbrev pub directive_at : List ℕ → Directive → Word → ℕ → Places → State → Try State

@@ -4,7 +4,7 @@ ghost use Rattle.std.specs.Result.{result_unwrap_or};
 ghost use Rattle.laws.specs.Stretches.{All};
 ghost use Rattle.circuit.specs.Records.{HasWord};
 ghost use Rattle.text.specs.Lines.{line_words};
-ghost use Rattle.names.specs.Chains.{Table};
+ghost use Rattle.names.specs.Chains.{Table, IsNew};
 ghost use Rattle.cover.specs.Gates.{listed, InputsFit};
 ghost use Rattle.cover.specs.Rows.{rows_from};
 ghost use Rattle.reading.specs.Reading.{add_name};
@@ -18,16 +18,17 @@ use cover::gates::{Inputs, gate_words};
 use cover::lines::{line_words, rows_from};
 use cover::rows::parse_cover;
 use names::NameTable;
+use names::new_name::NewName;
 use reading::records::{Counts, add_name, add_named, stretch_name, word_cell};
 use text::words::Word;
 
 /// The table of one input whose value is the input's.
 pub const BUFFER: usize = 2;
 
-// A gate that passed its checks: its output word, the wires of its inputs, and its table.
+// A gate that passed its checks: its new output name, the wires of its inputs, and its table.
 #[derive(Clone, Copy)]
 pub struct Planned {
-    pub out: Word,
+    pub out: NewName,
     pub wires: Inputs<usize>,
     pub table: usize,
 }
@@ -59,40 +60,40 @@ pub fn drivers(table: &NameTable, inputs: Inputs<Word>) -> Result<Inputs<usize>,
 pub fn plan_gate(table: &NameTable, line: Word, next: usize) -> Result<Planned, Refusal>
     requires { line.start + line.len ≤ length table.now.text.now }
     ensures { let t = table.now.text.now in
-        PlanIs t result (plan t (line_words t line) (rows_from t next) (entries_of table.now)) }
+        PlanIs table.now result (plan t (line_words t line) (rows_from t next) (entries_of table.now)) }
 {
     let gate = gate_words(line_words(table.text, line)).ok_or(Refusal::Malformed)?;
-    if table.find(gate.out).is_some() {
+    let Err(out) = table.search(gate.out) else {
         return Err(Refusal::DefinedBefore);
-    }
+    };
     let inputs = gate.inputs.ok_or(Refusal::WrongCount)?;
     let wires = drivers(table, inputs)?;
     let rows = rows_from(table.text, next);
     let truth_table = parse_cover(rows, inputs.count()).ok_or(Refusal::BadRow)?;
     Ok(Planned {
-        out: gate.out,
+        out,
         wires,
         table: truth_table,
     })
 }
 
-// A name for a wire that is there.
+// A new name for a wire that is there.
 pub fn add_alias(
     text: &[u8],
-    word: Word,
+    name: NewName,
     wire: usize,
     counts: Counts,
     heads: &mut [usize; 256],
     names: &mut [usize],
 ) -> Result<Counts, Refusal>
     requires table { Table text.now heads.old names.old counts.names }
-    requires word_in_text { word.start + word.len ≤ length text.now }
+    requires new { IsNew text.now heads.old names.old counts.names name }
     ensures table { Table text.now heads.new names.new (result_unwrap_or result counts).names }
     ensures same_nodes { IfOk result (λ c. c.nodes ≡ counts.nodes) }
-    ensures step { NamesStep (λ room. add_name room word wire)
+    ensures step { NamesStep (λ room. add_name room name.word wire)
         names.old counts.names names.new (outcome (λ c. c.names) result) }
 {
-    let named = add_name(text, word, wire, counts.names, heads, names)?;
+    let named = add_name(text, name, wire, counts.names, heads, names)?;
     Ok(Counts {
         names: named,
         ..counts
@@ -101,10 +102,10 @@ pub fn add_alias(
 
 /// The cell of a gate.
 pub fn gate_cell(p: Planned) -> BoolNode
-    ensures cell { result ≡ gate_cell p.out (listed p.wires) p.table }
+    ensures cell { result ≡ gate_cell p.out.word (listed p.wires) p.table }
     ensures wires_fit { All HasWord result.wires }
 {
-    let name = stretch_name(p.out);
+    let name = stretch_name(p.out.word);
     match p.wires {
         Inputs::Zero => word_cell(name, p.table, &[]),
         Inputs::One(first) => word_cell(name, p.table, &[first]),
@@ -123,9 +124,9 @@ pub fn put_gate(
     names: &mut [usize],
 ) -> Result<Counts, Refusal>
     requires areas { NamedNodesHold text.now heads.old nodes.old names.old counts }
-    requires word_in_text { p.out.start + p.out.len ≤ length text.now }
+    requires new { IsNew text.now heads.old names.old counts.names p.out }
     ensures areas { NamedNodesHoldAfter text.now heads.new nodes.new names.new result }
-    ensures step { HeldStep (λ places. gate places p.out (listed p.wires) p.table)
+    ensures step { HeldStep (λ places. gate places p.out.word (listed p.wires) p.table)
         nodes.old names.old counts nodes.new names.new result }
 {
     match (p.wires, p.table) {

@@ -6,6 +6,7 @@ ghost use Rattle.blif.specs.Blif.{blif};
 use circuit::records::Sizes;
 use circuit::refusals::Refusal;
 use names::NameTable;
+use names::new_name::NewName;
 use reading::format::{Names, parse};
 use text::words::Word;
 
@@ -16,8 +17,8 @@ impl Names for Blif {
     ghost constants = { false };
 
     #[tactic(auto, unfolding(reading::specs::Reading::find))]
-    fn find_wire(table: &NameTable, word: Word) -> Option<usize> {
-        table.find(word)
+    fn search(table: &NameTable, word: Word) -> Result<usize, NewName> {
+        table.search(word)
     }
 }
 

@@ -63,7 +63,7 @@ name_short ok k l = omega (arith, length-stretch _ _ _ (ok.inside k l), ok.insid
 
 -- after as many links as a name has digits and one, a search for it is at its end
 pub few_reached : FewReached
-few_reached text heads names count ok f once w g m = go (reached heads names w (suc (digit_count w))) refl
+few_reached text heads names count ok f w g m = go (reached heads names w (suc (digit_count w))) refl
   where
     has : (d k : ℕ) → digit_count w ≤ d → reached heads names w d ≡ suc k → name_at text names k ≡ w
     has d k l r =
@@ -74,5 +74,5 @@ few_reached text heads names count ok f once w g m = go (reached heads names w (
     go zero q = refl
     go (suc k) q =
         let b = back_to ok w (digit_count w) (suc (digit_count w)) k (omega arith) q in
-        let same = once b.0 k (reached_at ok w (digit_count w) b.0 b.1) (reached_at ok w (suc (digit_count w)) k q) (has (digit_count w) b.0 (omega arith) b.1 ∙ sym (has (suc (digit_count w)) k (omega arith) q)) in
+        let same = ok.once b.0 k (reached_at ok w (digit_count w) b.0 b.1) (reached_at ok w (suc (digit_count w)) k q) (has (digit_count w) b.0 (omega arith) b.1 ∙ sym (has (suc (digit_count w)) k (omega arith) q)) in
         absurd (omega (arith, b.2, same))

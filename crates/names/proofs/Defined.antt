@@ -1,17 +1,18 @@
 -- What `define` leaves: the link at the end of the search set, and the record stored.
 -- Assumes nothing.
+use Rattle.std.specs.Prelude.{None}
 use Rattle.std.proofs.Common.{◌≡◌, ℕ, zero, suc, ◌+◌, ◌-◌, ◌*◌, ◌/◌, ◌%◌, ◌^◌, ◌<◌, ◌≤◌, Bool, true, false, eqb, inl, inr, List, [], ◌∷◌, length, get_or, take, sym, refl, ap, ◌∙◌, ap₂, le_refl, add-one, arith, length-set, length-take, length-drop, get_or-take, get_or-set_other, get_or-set_same, below_more, eqb-true}
 use Rattle.std.proofs.lemmas.List.{get_or_append_left, get_or-append_right}
 use borrow.Rule.Slice.PartMut.{put_mid, same_len_mid}
 use borrow.Author.Tests.{eqb-false}
 use Rattle.laws.specs.Stretches.{stretch}
 use Rattle.laws.proofs.Stretches.{length-stretch}
-use Rattle.names.specs.Names.{name_of}
+use Rattle.names.specs.Names.{name_of, lookup}
 use Rattle.names.specs.Chains.{bucket_of, key_of, entry, entries, name_at, link_of, link_place, link_at, reached, headed, linked, LinkFits, Table, Behind, EndsAt, Defined}
 use Rattle.names.specs.declared.records.TheConstants.{NAME_WORDS, LINKS_AT, START_AT, WIRE_AT, HALF_BITS, HALF, LINKS, WORD_LINKS}
 use Rattle.names.proofs.Links.{key_length}
-use Rattle.names.proofs.Searches.{digit_small, reached_at, after}
-use Rattle.names.proofs.Defining.{HeadIs, LinkIs, head_more, link_more, there_more, alike_more}
+use Rattle.names.proofs.Searches.{none_named, digit_small, reached_at, after}
+use Rattle.names.proofs.Defining.{HeadIs, LinkIs, head_more, link_more, once_more, there_more, alike_more}
 
 -- ---- the five words of a record, stored
 
@@ -118,6 +119,7 @@ module _
     (bucket : b ≡ bucket_of (stretch text start len))
     (key_is : key ≡ key_of (stretch text start len))
     (ends : EndsAt heads names (stretch text start len) last digit)
+    (unknown : lookup text (stretch text start len) (entries names count) ≡ None)
   where
     abbrev w : List ℕ
     w = stretch text start len
@@ -274,6 +276,7 @@ module _
             room = omega (arith, set_room, length_put set_names (count * NAME_WORDS) key start wire set_room);
             inside = in_text;
             keyed = keys;
+            once = λ j k l m. once_more text heads names heads' names' count w last digit ok ends head_is link_is link_none name_old name_new (none_named text names w count unknown) j k (rw more at l) (rw more at m);
             head = λ d j l e. rw more (head_more text heads names heads' names' count w last digit ok ends head_is link_is link_none name_old name_new d j l e);
             link = λ k x j l m e. rw more (link_more text heads names heads' names' count w last digit ok ends head_is link_is link_none name_old name_new k x j (rw more at l) m e);
             there = λ k l. there_more text heads names heads' names' count w last digit ok ends head_is link_is link_none name_old name_new k (rw more at l);

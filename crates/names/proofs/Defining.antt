@@ -165,6 +165,22 @@ module _
             let n : k < count = omega (arith, eqb-false k count q) in
             pick n (link_is k x n m)
 
+    pub once_more : ((j : ℕ) → j < count → name_at text names j ≡ w → ⊥) → (j k : ℕ) → j < suc count → k < suc count → name_at text names' j ≡ name_at text names' k → j ≡ k
+    once_more new j k l m e = go (eqb j count) refl (eqb k count) refl
+      where
+        -- an older record has another name than the new one
+        apart : (i : ℕ) → i < count → name_at text names' i ≡ name_at text names' count → ⊥
+        apart i n q = new i n (sym (name_old i n) ∙ q ∙ name_new)
+
+        go : (t : Bool) → eqb j count ≡ t → (u : Bool) → eqb k count ≡ u → j ≡ k
+        go true p true q = eqb-true j count p ∙ sym (eqb-true k count q)
+        go true p false q = absurd (apart k (omega (arith, eqb-false k count q)) (sym e ∙ ap (name_at text names') (eqb-true j count p)))
+        go false p true q = absurd (apart j (omega (arith, eqb-false j count p)) (e ∙ ap (name_at text names') (eqb-true k count q)))
+        go false p false q =
+            let n : j < count = omega (arith, eqb-false j count p) in
+            let o : k < count = omega (arith, eqb-false k count q) in
+            ok.once j k n o (sym (name_old j n) ∙ e ∙ name_old k o)
+
     pub there_more : (k : ℕ) → k < suc count → ∥ ((d : ℕ) × (reached heads' names' (name_at text names' k) d ≡ suc k)) ∥₁
     there_more k l = go (eqb k count) refl
       where

@@ -2,9 +2,9 @@
 -- Assumes nothing.
 use Rattle.std.proofs.Common.{◌≡◌, ℕ, ◌+◌, ◌-◌, ◌*◌, ◌/◌, ◌%◌, ◌^◌, ◌<◌, ◌≤◌, List, [], ◌∷◌, length, get_or, refl, ap, ◌∙◌, arith}
 use Rattle.laws.specs.Stretches.{stretch}
-use Rattle.names.specs.Chains.{wrapping_sum, sum_in, word_of, mix_in, mixed}
+use Rattle.names.specs.Chains.{wrapping_sum, sum_in, four_bytes, word_of, mix_in, mixed}
 use Rattle.names.specs.Bounds.{Bytes}
-use Rattle.names.proofs.Words.{lowest, four_bytes, four_rest}
+use Rattle.names.proofs.Words.{lowest, four_rest}
 
 -- the four bytes of a number, added one after the other
 pub sum_bytes : (s w a b c d : ℕ) → a ≡ w % 256 → b ≡ w / 256 % 256 → c ≡ w / 65536 % 256 → d ≡ w / 16777216

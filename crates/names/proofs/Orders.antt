@@ -24,6 +24,7 @@ empty_table text names h =
       room = omega arith;
       inside = λ k l. absurd (omega arith);
       keyed = λ k l. absurd (omega arith);
+      once = λ j k l. absurd (omega arith);
       head = λ b j l e. absurd (omega (arith, get_or-replicate {A = ℕ} 256 b 0 0 l, e));
       link = λ k x j l m e. absurd (omega arith);
       there = λ k l. absurd (omega arith);

@@ -1,11 +1,13 @@
 -- Laws of a search: the records that it comes to, and what it finds.
 -- Assumes nothing.
-use Rattle.std.specs.Prelude.{None, Option, Some}
-use Rattle.std.proofs.Common.{◌≡◌, ℕ, zero, suc, ◌+◌, ◌-◌, ◌*◌, ◌%◌, ◌<◌, ◌≤◌, Bool, true, false, cond, ltb, leb, List, get_or, sym, refl, ap, ◌∙◌, ap₂, arith, leb-true, leb-false}
-use Rattle.std.proofs.lemmas.Bool.{false_from_ne_true}
+use Rattle.std.specs.Prelude.{None, Some}
+use Rattle.std.proofs.Common.{◌≡◌, ℕ, zero, suc, ◌+◌, ◌-◌, ◌*◌, ◌%◌, ◌<◌, ◌≤◌, Bool, true, false, cond, ltb, leb, eqb, eqb-true, List, get_or, sym, refl, ap, ◌∙◌, ap₂, arith, leb-true, leb-false, ltb-true, ltb-false}
+use Rattle.std.proofs.lemmas.Bool.{false_from_ne_true, false≢true}
+use Rattle.std.proofs.lemmas.Option.{none-some}
 use Rattle.std.proofs.lemmas.Grind.{not_there}
+use borrow.Author.Tests.{eqb-false}
 use Rattle.laws.specs.Stretches.{same_bytes}
-use Rattle.laws.proofs.Stretches.{same_eq}
+use Rattle.laws.proofs.Stretches.{same_eq, same_refl}
 use Rattle.names.specs.Names.{name_of, lookup}
 use Rattle.names.specs.Chains.{bucket_of, digit_of, entry, entries, name_at, link_at, next, reached, Alike, Table, Behind}
 use Rattle.names.specs.declared.records.TheConstants.{NAME_WORDS, WIRE_AT, LINKS, KEY_DIGITS}
@@ -21,6 +23,19 @@ digit_small w d = go (ltb d KEY_DIGITS) _ _
     go : (t : Bool) (a b : ℕ) → cond t (a % LINKS) (b % LINKS) < LINKS
     go true a b = omega arith
     go false a b = omega arith
+
+-- where nothing is looked up, no record has the name
+pub none_named : (text names w : List ℕ) (n : ℕ) → lookup text w (entries names n) ≡ None → (j : ℕ) → j < n → name_at text names j ≡ w → ⊥
+unfolding lookup entries name_at
+none_named text names w zero e j l q = absurd (omega arith)
+none_named text names w (suc k) e j l q = go (same_bytes (name_at text names k) w) refl e (λ z o. none_named text names w k z j o q) (eqb j k) refl
+  where
+    go : (t : Bool) → same_bytes (name_at text names k) w ≡ t → cond t (Some (entry names k).wire) (lookup text w (entries names k)) ≡ None
+        → (lookup text w (entries names k) ≡ None → j < k → ⊥) → (u : Bool) → eqb j k ≡ u → ⊥
+    go true s z older u p = none-some _ (sym z)
+    go false s z older true p =
+        false≢true (sym s ∙ ap (λ (i : ℕ). same_bytes (name_at text names i) w) (sym (eqb-true j k p)) ∙ ap (λ (v : List ℕ). same_bytes v w) q ∙ same_refl w)
+    go false s z older false p = older z (omega (arith, eqb-false j k p))
 
 module _ (heads names : List ℕ) where
   -- a search comes to a record by a link of the record before
@@ -84,31 +99,20 @@ module _ {text heads names : List ℕ} {count : ℕ} (ok : Table text heads name
           let b = back_to w e d k m p in
           omega (arith, b.1, b.2, q, m)
 
--- ---- how far a search has looked
-
--- the records in front of the one at hand; all of them at the end
-abbrev pub looked : ℕ → ℕ → ℕ
-looked count zero = count
-looked count (suc k) = k
+-- ---- how far a search has come
 
 -- the records from the one at hand on
 abbrev pub ahead : ℕ → ℕ → ℕ
 ahead count zero = 0
 ahead count (suc k) = count - k
 
--- after d links: the record at hand, and the wire of the last record that had the name
-pub record Searched (text heads names : List ℕ) (count : ℕ) (w : List ℕ) (at depth : ℕ) (found : Option ℕ) : Type 0 where
-  pub here : at ≡ reached heads names w depth
-  pub within : at ≤ count
-  pub deep : depth ≤ count
-  pub so_far : found ≡ lookup text w (entries names (looked count at))
-
--- with the record before, and the digit that chose its link
-pub record Followed (heads names : List ℕ) (count : ℕ) (w : List ℕ) (at depth last digit : ℕ) : Type 0 where
+-- after some links: the record at hand, the one before it and the digit that chose its link; none before the one at hand has the name
+pub record Searched (text heads names : List ℕ) (count : ℕ) (w : List ℕ) (at depth last digit : ℕ) : Type 0 where
   pub here : at ≡ reached heads names w depth
   pub within : at ≤ count
   pub deep : depth ≤ count
   pub behind : Behind (reached heads names w) w last digit depth
+  pub others : (e j : ℕ) → e < depth → reached heads names w e ≡ suc j → name_at text names j ≡ w → ⊥
 
 module _ {text heads names : List ℕ} {count : ℕ} (ok : Table text heads names count) (w : List ℕ) where
   within_count : (d : ℕ) → reached heads names w d ≤ count
@@ -138,41 +142,31 @@ module _ {text heads names : List ℕ} {count : ℕ} (ok : Table text heads name
   comes : (j : ℕ) → j < count → name_at text names j ≡ w → ((e : ℕ) → reached heads names w e ≡ suc j → ⊥) → ⊥
   comes j l q f = not_there (ok.there j l) (λ t. f t.0 (ap (λ (v : List ℕ). reached heads names v t.0) (sym q) ∙ t.1))
 
-  -- none of the name in front of the first record
-  none_first : (j : ℕ) → j < looked count (reached heads names w 0) → name_at text names j ≡ w → ⊥
-  none_first j l q = go (reached heads names w 0) refl l
+  -- at the end of a search that found no record of the name there is none
+  none_at : (depth : ℕ) → reached heads names w depth ≡ 0 → ((e j : ℕ) → e < depth → reached heads names w e ≡ suc j → name_at text names j ≡ w → ⊥)
+      → (j : ℕ) → j < count → name_at text names j ≡ w → ⊥
+  none_at depth z others j l q = comes j l q (λ e c. go e c (ltb e depth) refl)
     where
-      go : (x : ℕ) → reached heads names w 0 ≡ x → j < looked count x → ⊥
-      go zero p m = comes j m q (λ e c. let b = back_to ok w 0 e j (omega arith) c in omega (arith, b.1, p))
-      go (suc i) p m = comes j (omega (arith, m, reached_at ok w 0 i p)) q (λ e c. let b = back_to ok w 0 e j (omega arith) c in omega (arith, b.1, b.2, p, m))
+      go : (e : ℕ) → reached heads names w e ≡ suc j → (t : Bool) → ltb e depth ≡ t → ⊥
+      go e c true m = others e j (ltb-true e depth m) c q
+      go e c false m =
+          let b = back_to ok w depth e j (omega (arith, ltb-false e depth m)) c in
+          omega (arith, b.1, z)
 
-  -- none between a record and the next
-  none_next : (d k j : ℕ) → reached heads names w d ≡ suc k → suc k ≤ j → j < looked count (reached heads names w (suc d)) → name_at text names j ≡ w → ⊥
-  none_next d k j r l m q = go (reached heads names w (suc d)) refl m
-    where
-      later : (e : ℕ) → reached heads names w e ≡ suc j → (t : Bool) → leb (suc d) e ≡ t → suc d ≤ e
-      later e p true t = leb-true (suc d) e t
-      later e p false t =
-          let u : e ≤ d = omega (arith, leb-false (suc d) e t) in
-          let b = back_to ok w e d k u r in
-          absurd (omega (arith, b.1, b.2, p, l))
-
-      go : (x : ℕ) → reached heads names w (suc d) ≡ x → j < looked count x → ⊥
-      go zero p n = comes j n q (λ e c. let b = back_to ok w (suc d) e j (later e c (leb (suc d) e) refl) c in omega (arith, b.1, p))
-      go (suc i) p n = comes j (omega (arith, n, reached_at ok w (suc d) i p)) q (λ e c. let b = back_to ok w (suc d) e j (later e c (leb (suc d) e) refl) c in omega (arith, b.1, b.2, p, n))
-
-  looked_next : (d k : ℕ) → reached heads names w d ≡ suc k → lookup text w (entries names (looked count (reached heads names w (suc d)))) ≡ lookup text w (entries names (suc k))
-  looked_next d k r = upto (suc k) (looked count (reached heads names w (suc d))) (go (reached heads names w (suc d)) refl) (λ j l m. none_next d k j r l m)
-    where
-      go : (x : ℕ) → reached heads names w (suc d) ≡ x → suc k ≤ looked count x
-      go zero q = omega (arith, reached_at ok w d k r)
-      go (suc i) q =
-          let b = back_to ok w d (suc d) i (omega arith) q in
-          omega (arith, b.1, b.2, r)
-
-  looked_first : lookup text w (entries names (looked count (reached heads names w 0))) ≡ None
+  pub unknown : (depth : ℕ) → reached heads names w depth ≡ 0 → ((e j : ℕ) → e < depth → reached heads names w e ≡ suc j → name_at text names j ≡ w → ⊥)
+      → lookup text w (entries names count) ≡ None
   unfolding lookup entries
-  looked_first = upto 0 (looked count (reached heads names w 0)) (omega arith) (λ j l m. none_first j m)
+  unknown depth z others = upto 0 count (omega arith) (λ j l m. none_at depth z others j m)
+
+  -- a record of the name has its wire, since no other record has the name
+  pub known : {at : ℕ} → (at ≡ 0 → ⊥) → at ≤ count → same_bytes (name_at text names (at - 1)) w ≡ true
+      → lookup text w (entries names count) ≡ Some (get_or names ((at - 1) * NAME_WORDS + WIRE_AT) 0)
+  unfolding lookup entries entry name_at
+  known {at = zero} nz l s = absurd (nz refl)
+  known {at = suc k} nz l s =
+      let e : suc k - 1 ≡ k = omega arith in
+      let here : same_bytes (name_at text names k) w ≡ true = rw e at s in
+      upto (suc k) count l (λ j m n q. omega (arith, m, ok.once j k n (omega arith) (q ∙ sym (same_eq (name_at text names k) w here)))) ∙ rw (e, here)
 
   -- ---- a turn of the search
 
@@ -206,39 +200,26 @@ module _ {text heads names : List ℕ} {count : ℕ} (ok : Table text heads name
   deeper depth {at = zero} nz h = absurd (nz refl)
   deeper depth {at = suc k} nz h = omega (arith, depth_small ok w depth k (sym h), reached_at ok w depth k (sym h))
 
-  pub search_start : {b at : ℕ} → b ≡ bucket_of w → at ≡ get_or heads b 0 → Searched text heads names count w at 0 None
+  pub search_start : {b at : ℕ} → b ≡ bucket_of w → at ≡ get_or heads b 0 → Searched text heads names count w at 0 0 0
   search_start p q =
       let h = first_at p q in
-      record { here = h; within = omega (arith, h, within_count 0); deep = omega arith; so_far = sym (rw h looked_first) }
+      record { here = h; within = omega (arith, h, within_count 0); deep = omega arith; behind = refl; others = λ e j l. absurd (omega arith) }
 
-  has : (k : ℕ) (found : Option ℕ) → found ≡ lookup text w (entries names k) → cond (same_bytes (name_at text names k) w) (Some (get_or names (k * NAME_WORDS + WIRE_AT) 0)) found ≡ lookup text w (entries names (suc k))
-  unfolding lookup entries entry name_at
-  has k found e = ap (cond (same_bytes (name_of text (entry names k)) w) (Some (get_or names (k * NAME_WORDS + WIRE_AT) 0))) e
-
-  pub search_next : (depth : ℕ) {at x at' : ℕ} {found found' : Option ℕ} → (at ≡ 0 → ⊥) → Searched text heads names count w at depth found → x ≡ digit_of w depth → at' ≡ link_at names ((at - 1) * NAME_WORDS) x
-      → found' ≡ cond (same_bytes (name_at text names (at - 1)) w) (Some (get_or names ((at - 1) * NAME_WORDS + WIRE_AT) 0)) found
-      → Searched text heads names count w at' (depth + 1) found'
-  search_next depth {at = zero} nz s p q n = absurd (nz refl)
-  search_next depth {at = suc k} {found = found} {found' = found'} nz s p q n =
-      let e : suc k - 1 ≡ k = omega arith in
+  pub search_next : (depth : ℕ) {at x at' last digit : ℕ} → (at ≡ 0 → ⊥) → Searched text heads names count w at depth last digit → same_bytes (name_at text names (at - 1)) w ≡ false
+      → x ≡ digit_of w depth → at' ≡ link_at names ((at - 1) * NAME_WORDS) x → Searched text heads names count w at' (depth + 1) at x
+  search_next depth {at = at} nz s other p q =
       let f : depth + 1 ≡ suc depth = omega arith in
       let h = next_at depth nz s.here p q in
-      let here : found' ≡ lookup text w (entries names (suc k)) = (rw e at n) ∙ has k found s.so_far in
-      record {
-        here = h;
-        within = omega (arith, h, within_count (depth + 1));
-        deep = deeper depth nz s.here;
-        so_far = here ∙ sym (rw (h, f) (looked_next depth k (sym s.here)));
-      }
+      rw f (record { here = rw f at h; within = omega (arith, h, within_count (depth + 1)); deep = omega (arith, deeper depth nz s.here); behind = (sym s.here, nz, p); others = each })
+    where
+      each : (e j : ℕ) → e < suc depth → reached heads names w e ≡ suc j → name_at text names j ≡ w → ⊥
+      each e j l r n = go (ltb e depth) refl
+        where
+          here : e ≡ depth → ⊥
+          here q =
+              let a : at - 1 ≡ j = omega (arith, s.here, r, ap (reached heads names w) q) in
+              false≢true (sym other ∙ ap (λ (v : ℕ). same_bytes (name_at text names v) w) a ∙ ap (λ (v : List ℕ). same_bytes v w) n ∙ same_refl w)
 
-  pub follow_start : {b at : ℕ} → b ≡ bucket_of w → at ≡ get_or heads b 0 → Followed heads names count w at 0 0 0
-  follow_start p q =
-      let h = first_at p q in
-      record { here = h; within = omega (arith, h, within_count 0); deep = omega arith; behind = refl }
-
-  pub follow_next : (depth : ℕ) {at x at' last digit : ℕ} → (at ≡ 0 → ⊥) → Followed heads names count w at depth last digit → x ≡ digit_of w depth → at' ≡ link_at names ((at - 1) * NAME_WORDS) x
-      → Followed heads names count w at' (depth + 1) at x
-  follow_next depth nz s p q =
-      let f : depth + 1 ≡ suc depth = omega arith in
-      let h = next_at depth nz s.here p q in
-      rw f (record { here = rw f at h; within = omega (arith, h, within_count (depth + 1)); deep = omega (arith, deeper depth nz s.here); behind = (sym s.here, nz, p) })
+          go : (t : Bool) → ltb e depth ≡ t → ⊥
+          go true m = s.others e j (ltb-true e depth m) r n
+          go false m = here (omega (arith, ltb-false e depth m))

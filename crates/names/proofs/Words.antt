@@ -8,7 +8,7 @@ use lib.Seq.{drop-drop}
 use Rattle.laws.specs.Stretches.{stretch, same_bytes}
 use Rattle.laws.proofs.Stretches.{rest_step, head_step, stretch-none, drop-stretch}
 use Rattle.text.proofs.ByteLaws.{same_pointwise}
-use Rattle.names.specs.Chains.{word_of}
+use Rattle.names.specs.Chains.{four_bytes, word_of}
 use Rattle.names.specs.Bounds.{Bytes}
 
 bytes_rest : (a : ℕ) (l : List ℕ) → Bytes (a ∷ l) → Bytes l
@@ -19,9 +19,6 @@ pub lowest : (a q : ℕ) → a < 256 → ((a + q * 256) % 256 ≡ a) × ((a + q 
 lowest a q f = (omega arith, omega arith)
 
 -- ---- the number of a short stretch
-
-abbrev pub four_bytes : List ℕ → ℕ → ℕ
-four_bytes t p = get_or t p 0 + get_or t (p + 1) 0 * 256 + get_or t (p + 2) 0 * 65536 + get_or t (p + 3) 0 * 16777216
 
 pub word_none : (t : List ℕ) (p : ℕ) → 0 ≡ word_of (stretch t p 0)
 unfolding word_of

@@ -1,7 +1,10 @@
 -- The name table: the entries that the records of the name area hold, and the chains that lead to them.
 -- Assumes nothing.
-use Rattle.std.specs.Prelude.{◌≡◌, ℕ, zero, suc, ◌+◌, ◌-◌, ◌*◌, ◌/◌, ◌%◌, ◌^◌, ◌<◌, ◌≤◌, if◌then◌else◌, ltb, List, [], ◌∷◌, length, ◌≢◌, slice_index, slice_set}
-use Rattle.names.specs.Names.{Entry, name_of}
+use Rattle.std.specs.Prelude.{◌≡◌, ℕ, zero, suc, ◌+◌, ◌-◌, ◌*◌, ◌/◌, ◌%◌, ◌^◌, ◌<◌, ◌≤◌, if◌then◌else◌, ltb, List, [], ◌∷◌, length, ◌≢◌, slice_index, slice_set, None, Some, Ok, Err, Option, Result}
+use Rattle.text.specs.Words.{bytes_of}
+use Rattle.text.specs.declared.words.Word.{Word}
+use Rattle.names.specs.Names.{Entry, name_of, lookup}
+use Rattle.names.specs.declared.new_name.NewName.{NewName}
 use Rattle.names.specs.declared.records.TheConstants.{NAME_WORDS, LINKS_AT, START_AT, WIRE_AT, HALF_BITS, HALF, DIGIT_BITS, LINKS, WORD_LINKS, KEY_DIGITS, BYTE_DIGITS}
 
 -- a 32-bit wrapping sum of bytes, on top of s
@@ -13,9 +16,13 @@ wrapping_sum s (b ∷ bs) = wrapping_sum ((s + b) % 2 ^ 32) bs
 unfoldable pub sum_in : ℕ → ℕ → ℕ
 sum_in s w = wrapping_sum s (w % 256 ∷ w / 256 % 256 ∷ w / 65536 % 256 ∷ w / 16777216 ∷ [])
 
--- "the bucket from a 32-bit wrapping sum of the name's bytes, modulo 256"
+-- the bucket of a name: which of the 256 heads its search starts from
 unfoldable pub bucket_of : List ℕ → ℕ
 bucket_of bytes = wrapping_sum 0 bytes % 256
+
+-- four bytes of a text as one number, the first the lowest
+abbrev pub four_bytes : List ℕ → ℕ → ℕ
+four_bytes t at = slice_index t at + slice_index t (at + 1) * 256 + slice_index t (at + 2) * 65536 + slice_index t (at + 3) * 16777216
 
 -- bytes as one number, the first the lowest
 unfoldable pub word_of : List ℕ → ℕ
@@ -55,6 +62,7 @@ digit_of bytes d =
 
 -- ---- records: key; four links, each half a word; start; wire
 
+-- record k: where its name stands, and its wire
 unfoldable pub entry : List ℕ → ℕ → Entry
 entry names k = record {
   start = slice_index names (k * NAME_WORDS + START_AT);
@@ -67,6 +75,7 @@ unfoldable pub entries : List ℕ → ℕ → List Entry
 entries names zero = []
 entries names (suc k) = entry names k ∷ entries names k
 
+-- the name of record k
 unfoldable pub name_at : List ℕ → List ℕ → ℕ → List ℕ
 name_at text names k = name_of text (entry names k)
 
@@ -98,14 +107,19 @@ reached heads names w (suc d) = next names (reached heads names w d) (digit_of w
 abbrev pub Alike : List ℕ → List ℕ → ℕ → Type 0
 Alike v w d = (bucket_of v ≡ bucket_of w) × ((i : ℕ) → i < d → digit_of v i ≡ digit_of w i)
 
--- the table is in order: the text is short enough for its records, there are 256 heads, each name lies in the text and has its key in its record, heads lead to
--- records and links to later ones, the search for a record's name comes to the record, and whatever a search comes to is alike so far
+-- no name stands in two records
+abbrev pub Once : List ℕ → List ℕ → ℕ → Type 0
+Once text names count = (j k : ℕ) → j < count → k < count → name_at text names j ≡ name_at text names k → j ≡ k
+
+-- the table is in order: the text is short enough for its records, there are 256 heads, each name lies in the text, has its key in its record and stands in no
+-- other, heads lead to records and links to later ones, the search for a record's name comes to the record, and whatever a search comes to is alike so far
 pub record Table (text heads names : List ℕ) (count : ℕ) : Type 0 where
   pub sized : length text < HALF
   pub heads_sized : length heads ≡ 256
   pub room : count * NAME_WORDS ≤ length names
   pub inside : (k : ℕ) → k < count → slice_index names (k * NAME_WORDS + START_AT) + slice_index names (k * NAME_WORDS) % HALF ≤ length text
   pub keyed : (k : ℕ) → k < count → slice_index names (k * NAME_WORDS) ≡ key_of (name_at text names k)
+  pub once : Once text names count
   pub head : (b j : ℕ) → b < 256 → slice_index heads b ≡ suc j → j < count
   pub link : (k x j : ℕ) → k < count → x < LINKS → link_at names (k * NAME_WORDS) x ≡ suc j → (k < j) × (j < count)
   pub there : (k : ℕ) → k < count → ∥ ((d : ℕ) × (reached heads names (name_at text names k) d ≡ suc k)) ∥₁
@@ -116,16 +130,31 @@ abbrev pub Behind : (ℕ → ℕ) → List ℕ → ℕ → ℕ → ℕ → Type 
 Behind at w last digit zero = last ≡ 0
 Behind at w last digit (suc d) = (at d ≡ last) × (last ≢ 0) × (digit ≡ digit_of w d)
 
+-- the search for a name is at its end, behind record number `last` - 1 and its link `digit`; where `last` is 0, behind a head
 pub record EndsAt (heads names : List ℕ) (w : List ℕ) (last digit : ℕ) : Type 0 where
   pub depth : ℕ
   pub ended : reached heads names w depth ≡ 0
   pub behind : Behind (reached heads names w) w last digit depth
 
--- the heads and the area after a link to record number n - 1 is set there
+-- a name that no record has, and where the search for it ended
+pub record IsNew (text heads names : List ℕ) (count : ℕ) (n : NewName) : Type 0 where
+  pub inside : n.word.start + n.word.len ≤ length text
+  pub unknown : lookup text (bytes_of text n.word) (entries names count) ≡ None
+  pub bucket : n.hash.bucket ≡ bucket_of (bytes_of text n.word)
+  pub key : n.hash.key ≡ key_of (bytes_of text n.word)
+  pub ends : EndsAt heads names (bytes_of text n.word) n.last n.digit
+
+-- what a search for a word answers: the wire that is known for it; if none is, the word as a new name
+abbrev pub SearchIs : Option ℕ → List ℕ → List ℕ → List ℕ → ℕ → Word → Result ℕ NewName → Type 0
+SearchIs known text heads names count word (Ok wire) = known ≡ Some wire
+SearchIs known text heads names count word (Err n) = (known ≡ None) × (n.word ≡ word) × IsNew text heads names count n
+
+-- the heads after record number n - 1 was hung behind `last`: at its head, where no record is in front
 unfoldable pub headed : List ℕ → ℕ → ℕ → ℕ → List ℕ
 headed heads b zero n = slice_set heads b n
 headed heads b (suc k) n = heads
 
+-- the area after that: linked to from the record in front
 unfoldable pub linked : List ℕ → ℕ → ℕ → ℕ → List ℕ
 linked names zero digit n = names
 linked names (suc k) digit n =

@@ -2,20 +2,20 @@
 ghost use Rattle.std.specs.Prelude.{◌≡◌, ◌+◌, ◌-◌, ◌*◌, ◌/◌, ◌^◌, ◌<◌, ◌≤◌, length, slice_index};
 ghost use Rattle.laws.specs.Stretches.{stretch};
 ghost use Rattle.text.specs.Words.{bytes_of};
-ghost use Rattle.names.specs.Chains.{wrapping_sum, sum_in, bucket_of, word_of, mix_in, mixed, key_of};
+ghost use Rattle.names.specs.Chains.{wrapping_sum, sum_in, bucket_of, four_bytes, word_of, mix_in, mixed, key_of};
 
 use crate::records::HALF;
 use text::words::Word;
 
-// Four bytes as one number, the first the lowest.
+/// Four bytes as one number, the first the lowest.
 pub fn four_bytes(text: &[u8], at: usize) -> u32
     requires { at + 4 ≤ length text.now }
-    ensures { result ≡ slice_index text.now at + slice_index text.now (at + 1) * 256 + slice_index text.now (at + 2) * 65536 + slice_index text.now (at + 3) * 16777216 }
+    ensures { result ≡ four_bytes text.now at }
 {
     u32::from_le_bytes([text[at], text[at + 1], text[at + 2], text[at + 3]])
 }
 
-// Fewer than four bytes as one number, the last of the text.
+/// Fewer than four bytes as one number, the last of the text.
 pub fn few_bytes(text: &[u8], word: Word) -> u32
     requires { (word.start + word.len ≤ length text.now) × (word.len < 4) }
     ensures { result ≡ word_of (bytes_of text.now word) }
@@ -29,7 +29,7 @@ pub fn few_bytes(text: &[u8], word: Word) -> u32
     }
 }
 
-// Fewer than four bytes as one number. Four are read at once, but for the last of the text.
+/// Fewer than four bytes as one number. Four are read at once, but for the last of the text.
 pub fn last_bytes(text: &[u8], word: Word) -> u32
     requires { (word.start + word.len ≤ length text.now) × (word.len < 4) }
     ensures { result ≡ word_of (bytes_of text.now word) }
@@ -41,7 +41,7 @@ pub fn last_bytes(text: &[u8], word: Word) -> u32
     }
 }
 
-// The wrapping sum of a name's bytes, with the four of a number more.
+/// The wrapping sum of a name's bytes, with the four of a number more.
 pub fn add_bytes(sum: u32, word: u32) -> u32
     ensures { result ≡ sum_in sum word }
 {
@@ -52,7 +52,7 @@ pub fn add_bytes(sum: u32, word: u32) -> u32
         .wrapping_add(u32::from(d))
 }
 
-// The sum and the mix of the bytes so far.
+/// The sum and the mix of the bytes so far.
 #[derive(Clone, Copy)]
 pub struct Sums {
     pub sum: u32,
@@ -60,7 +60,7 @@ pub struct Sums {
 }
 
 impl Sums {
-    // With the bytes of a number more.
+    /// With the bytes of a number more.
     pub fn with_word(self, word: u32) -> Sums
         ensures sum_value { result.sum ≡ sum_in self.sum word }
         ensures mix_value { result.mix ≡ mix_in self.mix word }
@@ -73,11 +73,15 @@ impl Sums {
     }
 }
 
-// Of a word up to its last bytes, of which there are fewer than four.
+/// The sums of a word up to its last bytes, of which there are fewer than four.
 pub fn sum_words(text: &[u8], word: Word) -> Sums
     requires { word.start + word.len ≤ length text.now }
-    ensures len_value { wrapping_sum result.sum (stretch text.now (word.start + word.len / 4 * 4) (word.len - word.len / 4 * 4)) ≡ wrapping_sum 0 (stretch text.now word.start word.len) }
-    ensures len_value_2 { mixed result.mix (stretch text.now (word.start + word.len / 4 * 4) (word.len - word.len / 4 * 4)) ≡ mixed 0 (stretch text.now word.start word.len) }
+    ensures sum_value { let whole = word.len / 4 * 4 in
+        let rest = stretch text.now (word.start + whole) (word.len - whole) in
+        wrapping_sum result.sum rest ≡ wrapping_sum 0 (bytes_of text.now word) }
+    ensures mix_value { let whole = word.len / 4 * 4 in
+        let rest = stretch text.now (word.start + whole) (word.len - whole) in
+        mixed result.mix rest ≡ mixed 0 (bytes_of text.now word) }
 {
     let mut sums = Sums { sum: 0, mix: 0 };
     for &four in word.bytes(text).as_chunks::<4>().0 {

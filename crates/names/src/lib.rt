@@ -7,15 +7,15 @@ ghost use Rattle.std.specs.Prelude.{◌≡◌, ◌+◌, ◌*◌, ◌<◌, ◌≤
 ghost use Rattle.laws.specs.Stretches.{stretch, same_bytes};
 ghost use Rattle.text.specs.Words.{bytes_of};
 ghost use Rattle.names.specs.Names.{lookup};
-ghost use Rattle.names.specs.Chains.{bucket_of, key_of, entries, name_at, headed, linked, LinkFits, Table, EndsAt, Defined};
+ghost use Rattle.names.specs.Chains.{key_of, entries, name_at, Table, IsNew, SearchIs, Defined};
 
-use crate::hashing::{Hash, hash_of};
-use crate::records::{
-    HALF, HALF_BITS, LINKS_AT, NAME_WORDS, START_AT, WIRE_AT, WORD_LINKS, digit, link,
-};
+use crate::hashing::hash_of;
+use crate::new_name::NewName;
+use crate::records::{HALF, NAME_WORDS, START_AT, WIRE_AT, digit, link};
 use text::words::Word;
 
 pub mod hashing;
+pub mod new_name;
 pub mod promised;
 pub mod records;
 
@@ -25,31 +25,6 @@ pub fn same_name(text: &[u8], start: usize, word: Word) -> bool
     ensures { result ≡ same_bytes (stretch text.now start word.len) (bytes_of text.now word) }
 {
     &text[start..start + word.len] == word.bytes(text)
-}
-
-/// Where a search ends: the name's two hashes, the last record that it came to (by the number that links to it),
-/// and the digit that chose that record's link.
-#[derive(Clone, Copy)]
-pub struct End {
-    pub hash: Hash,
-    pub last: usize,
-    pub digit: usize,
-}
-
-impl End {
-    /// The link at the end of a search, or the head where it came to no record, set to a record.
-    pub fn set(self, at: usize, heads: &mut [usize; 256], names: &mut [usize])
-        requires link_fits { LinkFits names.old self.last self.digit at }
-        ensures heads_after { heads.new ≡ headed heads.old self.hash.bucket self.last at }
-        ensures names_after { names.new ≡ linked names.old self.last self.digit at }
-    {
-        if self.last == 0 {
-            heads[usize::from(self.hash.bucket)] = at;
-        } else {
-            let place = (self.last - 1) * NAME_WORDS + LINKS_AT + self.digit / WORD_LINKS;
-            names[place] += at << (self.digit % WORD_LINKS * HALF_BITS);
-        }
-    }
 }
 
 /// A table to be searched: the text of its names, its heads, and how many records of its area are used.
@@ -77,37 +52,12 @@ impl<'a> NameTable<'a> {
         self.names[base] == key && same_name(self.text, self.names[base + START_AT], word)
     }
 
-    /// The wire's word of a name, if it is there: of several records of that name, the newest's.
-    pub fn find(&self, word: Word) -> Option<usize>
+    /// The wire's word of a name; if it is not there, the name with the place where a record of it would hang.
+    pub fn search(&self, word: Word) -> Result<usize, NewName>
         requires word_in_text { word.start + word.len ≤ length self.now.text.now }
         ensures { let t = self.now.text.now in
-            result ≡ lookup t (bytes_of t word) (entries self.now.names.now self.now.count) }
-    {
-        let text = self.text;
-        let names = self.names;
-        let hash = hash_of(text, word);
-        let mut at = self.heads[usize::from(hash.bucket)];
-        let mut depth = 0;
-        let mut found = None;
-        // Along the links, whose end no count tells before.
-        while at != 0 {
-            let base = (at - 1) * NAME_WORDS;
-            if self.has_name(word, hash.key, at - 1) {
-                found = Some(names[base + WIRE_AT]);
-            }
-            at = link(names, base, digit(text, word, hash.key, depth));
-            depth += 1;
-        }
-        found
-    }
-
-    /// Where the search for a name ends, whether it is there or not.
-    pub fn end_of(&self, word: Word) -> End
-        requires word_in_text { word.start + word.len ≤ length self.now.text.now }
-        ensures bucket_value { result.hash.bucket ≡ bucket_of (bytes_of self.now.text.now word) }
-        ensures key_value { result.hash.key ≡ key_of (bytes_of self.now.text.now word) }
-        ensures ends_at { let name = bytes_of self.now.text.now word in
-            EndsAt self.now.heads.now self.now.names.now name result.last result.digit }
+            let known = lookup t (bytes_of t word) (entries self.now.names.now self.now.count) in
+            SearchIs known t self.now.heads.now self.now.names.now self.now.count word result }
     {
         let hash = hash_of(self.text, word);
         let mut at = self.heads[usize::from(hash.bucket)];
@@ -116,43 +66,49 @@ impl<'a> NameTable<'a> {
         let mut chosen = 0;
         // Along the links, whose end no count tells before.
         while at != 0 {
+            if self.has_name(word, hash.key, at - 1) {
+                return Ok(self.names[(at - 1) * NAME_WORDS + WIRE_AT]);
+            }
             last = at;
             chosen = digit(self.text, word, hash.key, depth);
             at = link(self.names, (at - 1) * NAME_WORDS, chosen);
             depth += 1;
         }
-        End {
+        Err(NewName {
+            word,
             hash,
             last,
             digit: chosen,
-        }
+        })
+    }
+
+    /// The wire's word of a name, if it is there.
+    pub fn find(&self, word: Word) -> Option<usize>
+        requires word_in_text { word.start + word.len ≤ length self.now.text.now }
+        ensures { let t = self.now.text.now in
+            result ≡ lookup t (bytes_of t word) (entries self.now.names.now self.now.count) }
+    {
+        self.search(word).ok()
     }
 }
 
-/// One record more, where the search for its name ends: a name and the word of its wire.
+/// One record more, where the search for its name ended: a name that the table has not, and the word of its wire.
 pub fn define(
     text: &[u8],
-    word: Word,
+    name: NewName,
     wire: usize,
     heads: &mut [usize; 256],
     names: &mut [usize],
     count: usize,
 )
     requires table { Table text.now heads.old names.old count }
-    requires word_in_text { word.start + word.len ≤ length text.now }
+    requires new { IsNew text.now heads.old names.old count name }
     requires room { count * NAME_WORDS + NAME_WORDS ≤ length names.old }
     requires few { count + 1 < HALF }
     ensures { Defined text.now heads.new names.new (count + 1)
-        (record { start = word.start; len = word.len; wire = wire }) (entries names.old count) }
+        (record { start = name.word.start; len = name.word.len; wire = wire }) (entries names.old count) }
 {
-    let table = NameTable {
-        text,
-        heads,
-        names,
-        count,
-    };
-    let end = table.end_of(word);
-    end.set(count + 1, heads, names);
+    name.set_link(count + 1, heads, names);
     let at = count * NAME_WORDS;
-    names[at..at + NAME_WORDS].copy_from_slice(&[end.hash.key, 0, 0, word.start, wire]);
+    names[at..at + NAME_WORDS].copy_from_slice(&[name.hash.key, 0, 0, name.word.start, wire]);
 }

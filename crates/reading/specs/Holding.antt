@@ -1,6 +1,6 @@
 -- What the areas hold while lines are read, and what the steps answer.
 -- Assumes nothing.
-use Rattle.std.specs.Prelude.{ℕ, ◌+◌, ◌-◌, ◌*◌, ◌≤◌, ◌≡◌, Bool, List, [], ◌∷◌, ◌++◌, length, replicate, get_or, None, Ok, Err, Option, Some, IfOk, OnOk}
+use Rattle.std.specs.Prelude.{ℕ, ◌+◌, ◌-◌, ◌*◌, ◌≤◌, ◌≡◌, Bool, List, [], ◌∷◌, ◌++◌, length, replicate, get_or, None, Ok, Err, Option, Some, Result, IfOk, OnOk}
 use Rattle.laws.specs.Areas.{encodes, up_from, stored, capacity}
 use Rattle.laws.specs.Stretches.{All}
 use Rattle.circuit.specs.Refusals.{Checked}
@@ -12,13 +12,14 @@ use Rattle.circuit.specs.Records.{encode_node, nodes_of, encode_output, outputs_
 use Rattle.circuit.specs.Circuits.{Circuit}
 use Rattle.text.specs.declared.words.Word.{Word}
 use Rattle.names.specs.Names.{Entry}
-use Rattle.names.specs.Chains.{entries, Table}
+use Rattle.names.specs.Chains.{entries, Table, SearchIs}
 use Rattle.names.specs.declared.NameTable.{NameTable}
+use Rattle.names.specs.declared.new_name.NewName.{NewName}
 use Rattle.names.specs.declared.records.TheConstants.{NAME_WORDS}
 use Rattle.reading.specs.declared.outputs.TheConstants.{START_AT, LEN_AT}
 use Rattle.reading.specs.declared.records.Counts.{Counts}
 use Rattle.reading.specs.declared.records.Reading.{Reading}
-use Rattle.reading.specs.Reading.{Places, Held, State, places_in, Out, resolve, closed}
+use Rattle.reading.specs.Reading.{Places, Held, State, places_in, Out, find, resolve, closed}
 
 -- a refusal of the code, or what it leaves, from what it answers
 abbrev pub outcome : {A B : Type 0} → (A → B) → Try A → Try B
@@ -32,6 +33,10 @@ places_of ns ms os = places_in (length ns) (length ms) (length os)
 -- the names that a table has
 abbrev pub entries_of : NameTable → List Entry
 entries_of t = entries t.names.now t.count
+
+-- what a search for a word answers, where `FALSE` and `TRUE` may be defined first
+abbrev pub WordSearch : Bool → NameTable → Word → Result ℕ NewName → Type 0
+WordSearch constants t word r = SearchIs (find constants t.text.now word (entries_of t)) t.text.now t.heads.now t.names.now t.count word r
 
 -- the nodes and names of areas that hold so many
 abbrev pub held_of : List ℕ → List ℕ → Counts → Held

@@ -4,7 +4,7 @@ ghost use Rattle.circuit.specs.Refusals.{Try, and_then};
 ghost use Rattle.circuit.specs.Circuits.{Circuit};
 ghost use Rattle.names.specs.declared.records.TheConstants.{HALF};
 ghost use Rattle.reading.specs.Reading.{Places, State, find, finish};
-ghost use Rattle.reading.specs.Holding.{places_of, entries_of, nothing_read, AreasHold, AreasHoldAfter, StateStep, Ends};
+ghost use Rattle.reading.specs.Holding.{places_of, entries_of, WordSearch, nothing_read, AreasHold, AreasHoldAfter, StateStep, Ends};
 ghost use Rattle.reading.specs.Areas.{read_text, LeavesAreas};
 
 use crate::areas::{conclude, prepare, refuse};
@@ -13,6 +13,7 @@ use crate::records::Reading;
 use circuit::records::Sizes;
 use circuit::refusals::Refusal;
 use names::NameTable;
+use names::new_name::NewName;
 use text::words::Word;
 
 // How a format finds the wire of a name. A trait of its own, since the lines of a format look names up.
@@ -20,10 +21,18 @@ pub trait Names {
     // Whether `FALSE` and `TRUE` are defined first.
     ghost constants: { Bool };
 
-    // The wire's word of a name.
-    fn find_wire(table: &NameTable, word: Word) -> Option<usize>
+    /// The wire's word of a name; if it is not defined, the name with the place where a record of it would hang.
+    fn search(table: &NameTable, word: Word) -> Result<usize, NewName>
         requires { word.start + word.len ≤ length table.now.text.now }
-        ensures { result ≡ find constants table.now.text.now word (entries_of table.now) };
+        ensures { WordSearch constants table.now word result };
+}
+
+/// The wire's word of a name, if it is defined.
+pub fn find_wire<F: Names>(table: &NameTable, word: Word) -> Option<usize>
+    requires { word.start + word.len ≤ length table.now.text.now }
+    ensures { result ≡ find F.constants table.now.text.now word (entries_of table.now) }
+{
+    F::search(table, word).ok()
 }
 
 // A format whose lines may be continued, as BLIF and BENCH are.

@@ -4,7 +4,7 @@ ghost use Rattle.std.specs.Result.{result_unwrap_or};
 ghost use Rattle.reading.specs.Reading.{find, add_output};
 ghost use Rattle.reading.specs.Holding.{entries_of, output_word, words_of, WordsHold, WordsStep, put_wire, Resolved};
 
-use crate::format::Names;
+use crate::format::{Names, find_wire};
 use crate::records::stretch_name;
 use circuit::areas::{put, put_output, records_in};
 use circuit::records::{BoolWire, OUTPUT_WORDS, Output};
@@ -55,7 +55,7 @@ pub fn resolve_at<F: Names>(table: &NameTable, outputs: &mut [usize], j: usize) 
         start: outputs[base + START_AT],
         len: outputs[base + LEN_AT],
     };
-    let wire = F::find_wire(table, word)?;
+    let wire = find_wire::<F>(table, word)?;
     let output = Output {
         name: stretch_name(word),
         wire: BoolWire::from(wire),

@@ -3,8 +3,9 @@ ghost use Rattle.std.specs.Prelude.{◌≡◌, ◌+◌, ◌≤◌, length};
 ghost use Rattle.std.specs.Result.{result_unwrap_or};
 ghost use Rattle.laws.specs.Stretches.{All};
 ghost use Rattle.circuit.specs.declared.records.TheConstants.{WIRES};
+ghost use Rattle.circuit.specs.declared.records.Name.TheVariants.{Stretch};
 ghost use Rattle.circuit.specs.Records.{HasWord};
-ghost use Rattle.names.specs.Chains.{Table};
+ghost use Rattle.names.specs.Chains.{Table, IsNew};
 ghost use Rattle.reading.specs.Reading.{add_name, add_node, add_named, word_cell, stretch_name, add_input};
 ghost use Rattle.reading.specs.Holding.{NodesHold, NamedNodesHold, NamedNodesHoldAfter, NamesStep, NodesStep, HeldStep};
 
@@ -13,6 +14,7 @@ use circuit::areas::{put_node, records_in};
 use circuit::records::{BoolNode, BoolWire, NODE_WORDS, Name, NodeNumber, WIRES, node_word};
 use circuit::refusals::Refusal;
 use names::NameTable;
+use names::new_name::NewName;
 use names::records::NAME_WORDS;
 use text::words::Word;
 
@@ -30,25 +32,25 @@ pub struct Reading {
     pub outputs: usize,
 }
 
-// A name for the word of a wire: how many names there are then. `add_node` and `outputs::add_output` share with it the test for room alone: what each stores, and in what, is its own.
+// A new name for the word of a wire: how many names there are then. `add_node` and `outputs::add_output` share with it the test for room alone: what each stores, and in what, is its own.
 #[tactic(auto, using(crate::proofs::Steps::name_full, crate::proofs::Steps::name_added))]
 pub fn add_name(
     text: &[u8],
-    word: Word,
+    name: NewName,
     wire: usize,
     count: usize,
     heads: &mut [usize; 256],
     names: &mut [usize],
 ) -> Result<usize, Refusal>
     requires table { Table text.now heads.old names.old count }
-    requires word_in_text { word.start + word.len ≤ length text.now }
+    requires new { IsNew text.now heads.old names.old count name }
     ensures table { Table text.now heads.new names.new (result_unwrap_or result count) }
-    ensures step { NamesStep (λ room. add_name room word wire) names.old count names.new result }
+    ensures step { NamesStep (λ room. add_name room name.word wire) names.old count names.new result }
 {
     if records_in(names.len(), NAME_WORDS) <= count {
         return Err(Refusal::NoRoom);
     }
-    names::define(text, word, wire, heads, names, count);
+    names::define(text, name, wire, heads, names, count);
     Ok(count + 1)
 }
 
@@ -67,11 +69,11 @@ pub fn add_node(node: BoolNode, count: usize, nodes: &mut [usize]) -> Result<usi
     Ok(count + 1)
 }
 
-/// A node and its name: how many nodes and names there are then.
+/// A node and its new name: how many nodes and names there are then.
 #[tactic(auto, using(circuit::proofs::Codes::length_nodes), unfolding(crate::specs::Reading::add_named))]
 pub fn add_named(
     text: &[u8],
-    word: Word,
+    name: NewName,
     node: BoolNode,
     counts: Counts,
     heads: &mut [usize; 256],
@@ -79,14 +81,14 @@ pub fn add_named(
     names: &mut [usize],
 ) -> Result<Counts, Refusal>
     requires areas { NamedNodesHold text.now heads.old nodes.old names.old counts }
-    requires word_in_text { word.start + word.len ≤ length text.now }
+    requires new { IsNew text.now heads.old names.old counts.names name }
     requires wires_fit { All HasWord node.wires }
     ensures areas { NamedNodesHoldAfter text.now heads.new nodes.new names.new result }
-    ensures step { HeldStep (λ p. add_named p word node) nodes.old names.old counts nodes.new names.new result }
+    ensures step { HeldStep (λ p. add_named p name.word node) nodes.old names.old counts nodes.new names.new result }
 {
     let n = add_node(node, counts.nodes, nodes)?;
     let wire = node_word(NodeNumber(counts.nodes));
-    let m = add_name(text, word, wire, counts.names, heads, names)?;
+    let m = add_name(text, name, wire, counts.names, heads, names)?;
     Ok(Counts { nodes: n, names: m })
 }
 
@@ -135,11 +137,11 @@ pub fn add_input<F: Names>(
         names,
         count: counts.names,
     };
-    match F::find_wire(&table, word) {
-        Some(_) => Err(Refusal::DefinedBefore),
-        None => {
+    match F::search(&table, word) {
+        Ok(_) => Err(Refusal::DefinedBefore),
+        Err(name) => {
             let node = BoolNode::input(stretch_name(word));
-            add_named(text, word, node, counts, heads, nodes, names)
+            add_named(text, name, node, counts, heads, nodes, names)
         }
     }
 }

@@ -14,7 +14,7 @@ returns c =
     let rest : List ℕ = stretch c.args.text.now at (c.args.word.len - c.args.word.len / 4 * 4) in
     let few : length rest < 4 = rw (length-stretch c.args.text.now at (c.args.word.len - c.args.word.len / 4 * 4) (omega arith)) (omega arith) in
     let sums = c.sum_words.result in
-    let sum = c.with_word-all.ensures.sum_value ∙ ap (sum_in sums.sum) c.last_bytes.ensures ∙ sum_short sums.sum rest (omega arith) (bytes_stretch c.args.text.now _ _ (λ i. omega (arith, c.type_inv.text i))) few ∙ c.sum_words.ensures.len_value in
-    let mix = c.with_word-all.ensures.mix_value ∙ ap (mix_in sums.mix) c.last_bytes.ensures ∙ mix_short sums.mix rest few ∙ c.sum_words.ensures.len_value_2 in
+    let sum = c.with_word-all.ensures.sum_value ∙ ap (sum_in sums.sum) c.last_bytes.ensures ∙ sum_short sums.sum rest (omega arith) (bytes_stretch c.args.text.now _ _ (λ i. omega (arith, c.type_inv.text i))) few ∙ c.sum_words.ensures.sum_value in
+    let mix = c.with_word-all.ensures.mix_value ∙ ap (mix_in sums.mix) c.last_bytes.ensures ∙ mix_short sums.mix rest few ∙ c.sum_words.ensures.mix_value in
     let len : c.args.word.len ≡ length (stretch c.args.text.now c.args.word.start c.args.word.len) = sym (length-stretch c.args.text.now c.args.word.start c.args.word.len c.requires.0) in
     record { bucket_value = ap (λ (x : ℕ). x % 256) sum; key_value = ap₂ ◌+◌ len (ap (λ (x : ℕ). x / 65536 * HALF) mix) }

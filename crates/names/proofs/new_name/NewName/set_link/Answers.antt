@@ -1,6 +1,6 @@
 use Rattle.names.proofs.Links.{at_head, at_record}
 use Rattle.std.proofs.Common.{refl}
-use Rattle.names.proofs.End.set.Goals as goal
+use Rattle.names.proofs.new_name.NewName.set_link.Goals as goal
 
 pub returns-then-self-eq0 : goal.returns-then-self-eq0
 returns-then-self-eq0 c =
