@@ -2,17 +2,14 @@
 -- Assumes nothing.
 use Prim.Native.Nat.{ℕ, ◌+◌, ◌-◌, ◌≤◌, ◌<◌, min}
 use mathlib.Core.Path.{◌≡◌, sym, ap, ◌∙◌}
-use mathlib.Core.Bool.{Bool, true, false, cond}
 use mathlib.Core.Logic.{⊎_elim}
 use mathlib.Core.List.{List, [], ◌∷◌, ◌++◌, append-nil, append_assoc}
 use native.Mathlib.Omega.{arith}
 use native.Mathlib.Numerals.{add-one}
-use lib.ListN.{length, length-take, length-drop, take, drop, get_or, drop_of_length-le}
+use lib.ListN.{length, length-drop, take, drop, get_or, drop_of_length-le}
 use lib.Seq.{take-suc, take_all}
 use Rattle.std.proofs.lemmas.Bool.{cases_lt}
 use Rattle.laws.specs.Stretches.{stretch}
-use Rattle.circuit.specs.declared.records.BoolNode.{BoolNode}
-use Rattle.circuit.specs.Records.{is_cell_node, wires_of}
 use Rattle.listing.specs.Listing.{word, words}
 
 -- ---- words of a list
@@ -32,14 +29,6 @@ module _ {A : Type 0} (f : A → List ℕ) where
   words-next l d k old mid new h p q =
       let e : words f (take (k + 1) l) ≡ words f (take k l) ++ word (f (get_or l k d)) = rw (add-one k, take-suc l k d h) (words_snoc (take k l) (get_or l k d)) in
       q ∙ ap (λ (z : List ℕ). z ++ word (f (get_or l k d))) p ∙ append_assoc old (words f (take k l)) (word (f (get_or l k d))) ∙ ap (λ (z : List ℕ). old ++ z) (sym e)
-
-pub wires_most : (n : BoolNode) → length (wires_of n) ≤ 2
-unfolding wires_of
-wires_most n = go (is_cell_node n)
-  where
-    go : (t : Bool) → length (cond t (take n.count (n.first ∷ n.second ∷ [])) []) ≤ 2
-    go true = simp length-take (omega arith)
-    go false = omega arith
 
 -- ---- a stretch as far as the text goes
 

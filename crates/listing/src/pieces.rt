@@ -2,6 +2,7 @@
 ghost use Rattle.std.specs.Prelude.{◌≡◌, ◌++◌, ◌+◌, ◌*◌, ◌≤◌, length};
 ghost use Rattle.laws.specs.Stretches.{stretch};
 ghost use Rattle.circuit.specs.Records.{wires_of};
+ghost use Rattle.listing.specs.declared.sizes.TheConstants.{DIGITS, NUMBER_BYTES, WIRE_BYTES, WIRES_BYTES, PREFIX_BYTES, NAME_BYTES};
 ghost use Rattle.listing.specs.Decimal.{decimal};
 ghost use Rattle.listing.specs.Listing.{word, words, wire_bytes, name_bytes};
 
@@ -21,9 +22,9 @@ pub fn put_bytes<L: Line>(line: &mut L, bytes: &[u8])
 
 // The digits of a number.
 pub fn put_decimal<L: Line>(line: &mut L, n: usize)
-    requires { 20 ≤ L.room line.old }
+    requires { DIGITS ≤ L.room line.old }
     ensures written { L.written line.new ≡ L.written line.old ++ decimal n }
-    ensures room { L.room line.old ≤ L.room line.new + 20 }
+    ensures room { L.room line.old ≤ L.room line.new + DIGITS }
     ensures place { L.place line.new ≡ L.place line.old }
 {
     line.extend(Buffer::new().format(n).as_bytes());
@@ -31,9 +32,9 @@ pub fn put_decimal<L: Line>(line: &mut L, n: usize)
 
 // A space and a number.
 pub fn put_number<L: Line>(line: &mut L, n: usize)
-    requires { 21 ≤ L.room line.old }
+    requires { NUMBER_BYTES ≤ L.room line.old }
     ensures written { L.written line.new ≡ L.written line.old ++ word (decimal n) }
-    ensures room { L.room line.old ≤ L.room line.new + 21 }
+    ensures room { L.room line.old ≤ L.room line.new + NUMBER_BYTES }
     ensures place { L.place line.new ≡ L.place line.old }
 {
     line.push(b' ');
@@ -42,9 +43,9 @@ pub fn put_number<L: Line>(line: &mut L, n: usize)
 
 // Numbers, each with a space before it.
 pub fn put_numbers<L: Line>(line: &mut L, numbers: &[usize])
-    requires { 21 * length numbers.now ≤ L.room line.old }
+    requires { NUMBER_BYTES * length numbers.now ≤ L.room line.old }
     ensures written { L.written line.new ≡ L.written line.old ++ words decimal numbers.now }
-    ensures room { L.room line.old ≤ L.room line.new + 21 * length numbers.now }
+    ensures room { L.room line.old ≤ L.room line.new + NUMBER_BYTES * length numbers.now }
     ensures place { L.place line.new ≡ L.place line.old }
 {
     for &n in numbers {
@@ -54,9 +55,9 @@ pub fn put_numbers<L: Line>(line: &mut L, numbers: &[usize])
 
 // A wire: `n` and its node's number, or `c0`, `c1`.
 pub fn put_wire<L: Line>(line: &mut L, w: BoolWire)
-    requires { 21 ≤ L.room line.old }
+    requires { WIRE_BYTES ≤ L.room line.old }
     ensures written { L.written line.new ≡ L.written line.old ++ wire_bytes w }
-    ensures room { L.room line.old ≤ L.room line.new + 21 }
+    ensures room { L.room line.old ≤ L.room line.new + WIRE_BYTES }
     ensures place { L.place line.new ≡ L.place line.old }
 {
     match w {
@@ -71,9 +72,9 @@ pub fn put_wire<L: Line>(line: &mut L, w: BoolWire)
 
 // A space and a wire.
 pub fn put_wire_word<L: Line>(line: &mut L, w: BoolWire)
-    requires { 22 ≤ L.room line.old }
+    requires { 1 + WIRE_BYTES ≤ L.room line.old }
     ensures written { L.written line.new ≡ L.written line.old ++ word (wire_bytes w) }
-    ensures room { L.room line.old ≤ L.room line.new + 22 }
+    ensures room { L.room line.old ≤ L.room line.new + (1 + WIRE_BYTES) }
     ensures place { L.place line.new ≡ L.place line.old }
 {
     line.push(b' ');
@@ -82,9 +83,9 @@ pub fn put_wire_word<L: Line>(line: &mut L, w: BoolWire)
 
 // The wires of a node.
 pub fn put_wires<L: Line>(line: &mut L, n: BoolNode)
-    requires { 44 ≤ L.room line.old }
+    requires { WIRES_BYTES ≤ L.room line.old }
     ensures written { L.written line.new ≡ L.written line.old ++ words wire_bytes (wires_of n) }
-    ensures room { L.room line.old ≤ L.room line.new + 44 }
+    ensures room { L.room line.old ≤ L.room line.new + WIRES_BYTES }
     ensures place { L.place line.new ≡ L.place line.old }
 {
     for k in 0..wire_count(n) {
@@ -106,9 +107,9 @@ pub fn put_part<L: Line>(line: &mut L, text: &[u8], start: usize, len: usize)
 
 // A name, with what stands before a wire's number.
 pub fn put_name<L: Line>(line: &mut L, text: &[u8], before: &[u8], name: Name)
-    requires { (length before.now ≤ 2) × (length text.now + 27 ≤ L.room line.old) }
+    requires { (length before.now ≤ PREFIX_BYTES) × (length text.now + NAME_BYTES ≤ L.room line.old) }
     ensures written { L.written line.new ≡ L.written line.old ++ name_bytes text.now before.now name }
-    ensures room { L.room line.old ≤ L.room line.new + (length text.now + 27) }
+    ensures room { L.room line.old ≤ L.room line.new + (length text.now + NAME_BYTES) }
     ensures place { L.place line.new ≡ L.place line.old }
 {
     match name {

@@ -1,5 +1,6 @@
 // Lines on lent areas, of which nothing but their length is known.
 ghost use Rattle.std.specs.Prelude.{◌≡◌, ◌≤◌, length, take};
+ghost use Rattle.listing.specs.declared.sizes.TheConstants.{LINE_BYTES};
 ghost use Rattle.listing.specs.Listing.{count_line};
 
 use crate::lent::Lent;
@@ -8,7 +9,7 @@ use crate::lines::{listing_line, put_count};
 
 // The line of the node count, in front of an area, and how many bytes it is.
 fn count_in_front(area: &mut [u8], n: usize) -> usize
-    requires { 128 ≤ length area.old }
+    requires { LINE_BYTES ≤ length area.old }
     ensures front { take result area.new ≡ count_line n }
     ensures count { result ≡ length (count_line n) }
 {

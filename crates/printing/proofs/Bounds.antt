@@ -22,6 +22,8 @@ use Rattle.reading.specs.Areas.{Leaves}
 use Rattle.schedule.specs.Call.{ordered_cells, graph_in, leaves, schedule_fault, schedule_call}
 use Rattle.listing.specs.declared.TheConstants.{LISTED}
 use Rattle.listing.specs.Lines.{Room}
+use Rattle.circuit.specs.declared.records.TheConstants.{NODE_WORDS, OUTPUT_WORDS}
+use Rattle.printing.specs.declared.rooms.TheConstants.{JOINED_AREA, NODES_AREA, LINE_AREA}
 use Rattle.printing.specs.Inside.{ReadInside, Listable}
 
 -- ---- as many cells as nodes at the most
@@ -48,17 +50,17 @@ answer_most : (fault : Checked) (cells : ℕ) → ordered_cells (check_then faul
 answer_most (Ok u) cells = omega arith
 answer_most (Err e) cells = omega arith
 
-ordered_most : (r : Try ℕ) (nodes outputs keys a b c x y z : List ℕ) (w : ℕ) → leaves r a b c ≡ schedule_call nodes outputs w keys x y z → ordered_cells r ≤ length nodes / 9
+ordered_most : (r : Try ℕ) (nodes outputs keys a b c x y z : List ℕ) (w : ℕ) → leaves r a b c ≡ schedule_call nodes outputs w keys x y z → ordered_cells r ≤ length nodes / NODE_WORDS
 unfolding schedule_call
 ordered_most r nodes outputs keys a b c x y z w e =
     omega (
       arith,
       ap (λ l. ordered_cells l.answer) e,
-      answer_most (schedule_fault nodes outputs w keys (length x) (length y) (length z)) (length (cells_of (graph_in nodes (length nodes / 9)))),
-      cells_most nodes (length nodes / 9),
+      answer_most (schedule_fault nodes outputs w keys (length x) (length y) (length z)) (length (cells_of (graph_in nodes (length nodes / NODE_WORDS)))),
+      cells_most nodes (length nodes / NODE_WORDS),
     )
 
-pub cells_within : (r : Try ℕ) (nodes outputs keys a b c x y z : List ℕ) (w n : ℕ) → leaves r a b c ≡ schedule_call nodes outputs w keys x y z → r ≡ Ok n → n ≤ length nodes / 9
+pub cells_within : (r : Try ℕ) (nodes outputs keys a b c x y z : List ℕ) (w n : ℕ) → leaves r a b c ≡ schedule_call nodes outputs w keys x y z → r ≡ Ok n → n ≤ length nodes / NODE_WORDS
 cells_within r nodes outputs keys a b c x y z w n e q = omega (arith, ordered_most r nodes outputs keys a b c x y z w e, ap ordered_cells q)
 
 -- ---- the records of a circuit that was read are inside their areas
@@ -75,13 +77,13 @@ inside c r nodes outputs w o p a s b t = subst (λ (x : Try Sizes). ReadInside x
     go (Err e) a b = tt
     go (Ok q) a b =
         record {
-          words_of_nodes = omega (arith, filled_inside (encodes encode_node q.nodes) nodes w a s, length-encodes encode_node 9 node_wide q.nodes);
-          words_of_outputs = omega (arith, filled_inside (encodes encode_output q.outputs) outputs o b t, length-encodes encode_output 5 output_wide q.outputs);
+          words_of_nodes = omega (arith, filled_inside (encodes encode_node q.nodes) nodes w a s, length-encodes encode_node NODE_WORDS node_wide q.nodes);
+          words_of_outputs = omega (arith, filled_inside (encodes encode_output q.outputs) outputs o b t, length-encodes encode_output OUTPUT_WORDS output_wide q.outputs);
         }
 
 -- of a text whose lines were joined
 pub joined_inside : (text : List ℕ) (c : Try Circuit) (j w k o : ℕ) (r : Try Sizes) (joined nodes names outputs : List ℕ) → Leaves text c j w k o r joined nodes names outputs
-    → length joined ≡ 32769 → length nodes ≡ w → w ≡ 9216 → length outputs ≡ o → Listable joined nodes outputs r
+    → length joined ≡ JOINED_AREA → length nodes ≡ w → w ≡ NODES_AREA → length outputs ≡ o → Listable joined nodes outputs r
 joined_inside text c j w k o r joined nodes names outputs l f s g t =
     record { text_size = omega arith; node_size = omega arith; inside = inside c r nodes outputs w o l.answer l.nodes_is s l.outputs_is t }
 
@@ -91,5 +93,5 @@ pub front_size : {A : Type 0} (n : ℕ) (l : List A) → n ≤ length l → n �
 front_size n l h = sym (length-take-le n l h)
 
 -- room for every line of a circuit of at most 1,024 nodes
-pub circuit-room : (text order : List ℕ) (n : ℕ) → length text ≤ 32769 → n ≤ LISTED → n ≤ length order → Room (length text) (length (take n order)) 33024
+pub circuit-room : (text order : List ℕ) (n : ℕ) → length text ≤ JOINED_AREA → n ≤ LISTED → n ≤ length order → Room (length text) (length (take n order)) LINE_AREA
 circuit-room text order n h k m = record { of_node = omega arith; of_order = omega (arith, length-take-le n order m) }
