@@ -1,3 +1,6 @@
 pub mod Rule
-pub mod Answers
+pub mod PairAnswers
+pub mod Fillings
+pub mod Folds
+pub mod Index
 pub mod Examples

@@ -1,10 +1,11 @@
--- Tables packed in a number, and the cell rule. A value is 0, 1 or 2, the unknown.
+-- Tables packed in a number, and the cell rule. A value is 0, 1 or 2, the unknown; any greater number counts as unknown.
 -- Assumes nothing.
-use Rattle.std.specs.Prelude.{List, [], ◌∷◌, ◌++◌, map, Bool, cond, ◌≡◌, ℕ, zero, suc, ◌+◌, ◌*◌, ◌/◌, ◌%◌, T, eqb, length}
+use Rattle.std.specs.Prelude.{List, [], ◌∷◌, ◌++◌, map, Bool, cond, ℕ, zero, suc, ◌+◌, ◌*◌, ◌/◌, ◌%◌, T, eqb}
 use Rattle.laws.specs.Bits.{bit, set_bit}
-use Rattle.laws.proofs.Table.{every}
+use Rattle.laws.specs.Table.{every}
+use Rattle.cells.specs.declared.pairs.TheConstants.{VALUES, PAIRS}
 
--- "Table entry j, 0 or 1, is bit j of a number (bit 0 lowest)"
+-- entry j of a table, 0 or 1: bit j of the number, bit 0 the lowest
 abbrev pub entry : ℕ → ℕ → ℕ
 entry table j = bit table j
 
@@ -12,12 +13,12 @@ entry table j = bit table j
 abbrev pub set_entry : ℕ → ℕ → ℕ → ℕ
 set_entry table j b = set_bit table j b
 
--- "index j takes the first input as its most significant bit": the index that known values give, k what the values before gave
+-- the index that known values pick, the first the most significant bit; k is what the values before gave
 unfoldable pub index_from : ℕ → List ℕ → ℕ
 index_from k [] = k
 index_from k (v ∷ vs) = index_from (2 * k + v) vs
 
--- "every filling of its unknown positions": the indices that the fillings pick; k is what the values before gave
+-- the indices that the fillings of the unknown values pick; k is what the values before gave
 abbrev pub fillings : ℕ → List ℕ → List ℕ
 fillings k [] = k ∷ []
 fillings k (zero ∷ vs) = fillings (2 * k) vs
@@ -30,15 +31,14 @@ agreed [] = 2
 agreed (b ∷ []) = b
 agreed (b ∷ c ∷ bs) = cond (eqb b (agreed (c ∷ bs))) b 2
 
--- "A cell gives b when every filling of its unknown positions picks b, else 2; the same wire at both positions is filled separately"
+-- the answer of a cell: the entry that every filling of its unknown values picks, else 2. Each value is filled on its own, also where one wire is read twice
 abbrev pub cell_rule : ℕ → List ℕ → ℕ
 cell_rule table vs = agreed (map (entry table) (fillings 0 vs))
 
--- "Two-input cells use a fixed table of 144 answers at 9 × table + 3 × first + second": the rule at place k
+-- the answers for two inputs stand at PAIRS * table + VALUES * first + second: whether the one at place k is the rule's
 unfoldable pub right_answer : ℕ → ℕ → Bool
-right_answer k answer = eqb answer (cell_rule (k / 9) (k % 9 / 3 ∷ k % 3 ∷ []))
+right_answer k answer = eqb answer (cell_rule (k / PAIRS) (k % PAIRS / VALUES ∷ k % VALUES ∷ []))
 
--- a table that passes the test at each of its 144 places
-pub record AnswerTable (answers : List ℕ) : Type 0 where
-  pub size : length answers ≡ 144
-  pub right : T (every right_answer 0 answers)
+-- each of the answers passes the test
+abbrev pub AnswersRight : List ℕ → Type 0
+AnswersRight answers = T (every right_answer 0 answers)

@@ -2,29 +2,20 @@
 
 #![tactic(auto)]
 
-ghost use Rattle.std.specs.Prelude.{◌≡◌, ◌<◌};
-ghost use Rattle.cells.specs.Cells.{entry, set_entry, AnswerTable};
+ghost use Rattle.std.specs.Prelude.{◌≡◌, ◌^◌, ◌<◌, ◌≤◌, length};
+ghost use Rattle.laws.specs.Stretches.{All};
+ghost use Rattle.cells.specs.Cells.{entry, set_entry, index_from};
 
-// The answers of the two-input cells, at 9 * table + 3 * first + second: a row for each table.
-const ANSWERS: [u8; 144] = *b"\
-    \x00\x00\x00\x00\x00\x00\x00\x00\x00\
-    \x01\x00\x02\x00\x00\x00\x02\x00\x02\
-    \x00\x01\x02\x00\x00\x00\x00\x02\x02\
-    \x01\x01\x01\x00\x00\x00\x02\x02\x02\
-    \x00\x00\x00\x01\x00\x02\x02\x00\x02\
-    \x01\x00\x02\x01\x00\x02\x01\x00\x02\
-    \x00\x01\x02\x01\x00\x02\x02\x02\x02\
-    \x01\x01\x01\x01\x00\x02\x01\x02\x02\
-    \x00\x00\x00\x00\x01\x02\x00\x02\x02\
-    \x01\x00\x02\x00\x01\x02\x02\x02\x02\
-    \x00\x01\x02\x00\x01\x02\x00\x01\x02\
-    \x01\x01\x01\x00\x01\x02\x02\x01\x02\
-    \x00\x00\x00\x01\x01\x01\x02\x02\x02\
-    \x01\x00\x02\x01\x01\x01\x01\x02\x02\
-    \x00\x01\x02\x01\x01\x01\x02\x01\x02\
-    \x01\x01\x01\x01\x01\x01\x01\x01\x01";
+pub mod folding;
+pub mod pairs;
 
-// Entry j of a packed table.
+/// The value of a wire of which it is not known whether it is 0 or 1.
+pub const UNKNOWN: u8 = 2;
+
+/// The inputs that a cell has at most: its table, with an entry for each setting of them, fills a number of 64 bits.
+pub const MOST_INPUTS: usize = 6;
+
+/// Entry j of a packed table, 0 or 1: bit j of the number, bit 0 the lowest.
 pub fn table_entry(table: usize, j: usize) -> usize
     requires { j < 64 }
     ensures { result ≡ entry table j }
@@ -32,7 +23,7 @@ pub fn table_entry(table: usize, j: usize) -> usize
     (table >> j) & 1
 }
 
-// The table with entry j set to a bit. A number and no `bool`, as tables, assignments and the rule's index have it: each caller would turn it back.
+/// The table with entry j set to a bit, 0 or 1.
 pub fn set_table_entry(table: usize, j: usize, bit: usize) -> usize
     requires { (j < 64) × (bit < 2) }
     ensures { result ≡ set_entry table j bit }
@@ -40,9 +31,14 @@ pub fn set_table_entry(table: usize, j: usize, bit: usize) -> usize
     (table & !(1 << j)) | (bit << j)
 }
 
-// The table of answers, for a caller to lend on.
-pub fn answer_table() -> [u8; 144]
-    ensures { AnswerTable result }
+/// The index into a table that known values pick, the first the most significant bit.
+pub fn index_of(values: &[u8]) -> usize
+    requires { (length values.now ≤ MOST_INPUTS) × All (λ v. v < 2) values.now }
+    ensures { (result ≡ index_from 0 values.now) × (result < 2 ^ length values.now) }
 {
-    ANSWERS
+    let mut index = 0;
+    for value in values {
+        index = 2 * index + usize::from(*value);
+    }
+    index
 }

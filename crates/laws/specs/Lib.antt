@@ -4,3 +4,4 @@ pub mod Lists
 pub mod Stretches
 pub mod Digits
 pub mod Sums
+pub mod Table

@@ -16,9 +16,10 @@ use borrow.Author.Tests.{eq-eqb, eqb-true, leb-true, leb-false, le-leb, lt-leb, 
 use Rattle.std.proofs.Math.Bool.{and-true}
 use Rattle.laws.specs.Digits.{is_set}
 use Rattle.laws.specs.Stretches.{stretch, run, All}
+use Rattle.laws.specs.Table.{every}
 use Rattle.laws.proofs.Digits.{bit_shift, bit-and, bit_below, bit-zero, lowest}
 use Rattle.laws.proofs.Stretches.{rest_step, rest_end, all_map, all_at, length-stretch, get_or-stretch}
-use Rattle.laws.proofs.Table.{every, at}
+use Rattle.laws.proofs.Table.{at}
 use Rattle.text.specs.Eights.{word_of, eight_at, outside, Between, BetweenOf}
 use Rattle.text.proofs.RunLaws.{run_at, run_full, run_take, run_past}
 
