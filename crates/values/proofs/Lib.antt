@@ -1,0 +1,9 @@
+pub mod NodeValues
+pub mod WireValues
+pub mod Storage
+pub mod Inputs
+pub mod SoundCells
+pub mod OutputValues
+pub mod Valued
+pub mod Calls
+pub mod Evaluating

@@ -1,0 +1,4 @@
+pub mod Values
+pub mod Assignments
+pub mod Calls
+pub mod Inner
