@@ -1,6 +1,6 @@
 -- The index of known values, a value at a time.
 -- Assumes nothing.
-use Rattle.std.proofs.Common.{add-one, ℕ, ◌+◌, ◌*◌, ◌^◌, ◌<◌, ◌≤◌, ◌≡◌, List, [], ◌∷◌, length, drop, get_or, sym, ap, ◌∙◌, subst, arith}
+use Rattle.std.proofs.Common.{add-one, ℕ, ◌+◌, ◌*◌, ◌^◌, ◌<◌, ◌≤◌, ◌≡◌, List, [], ◌∷◌, length, drop, get_or, refl, sym, ap, ◌∙◌, subst, arith}
 use lib.Pow.{pow-add, pow_mono}
 use lib.ListN.{drop_of_length-le}
 use Rattle.std.proofs.Math.Seq.{drop-cons}
@@ -15,6 +15,9 @@ pub record Indexed (vs : List ℕ) (i index : ℕ) : Type 0 where
   pub whole : index_from index (drop i vs) ≡ index_from 0 vs
   pub known : All (λ v. v < 2) (drop i vs)
   pub small : index < 2 ^ i
+
+pub indexed_start : (vs : List ℕ) → All (λ v. v < 2) vs → Indexed vs 0 0
+indexed_start vs h = record { whole = refl; known = h; small = omega arith }
 
 pub indexed_next : (vs : List ℕ) (i index : ℕ) → i < length vs → Indexed vs i index → (v : ℕ) → v ≡ get_or vs i 0 → Indexed vs (i + 1) (2 * index + v)
 unfolding index_from

@@ -2,9 +2,8 @@
 
 #![tactic(auto)]
 
-ghost use Rattle.std.specs.Prelude.{◌≡◌, ◌^◌, ◌<◌, ◌≤◌, length};
-ghost use Rattle.laws.specs.Stretches.{All};
-ghost use Rattle.cells.specs.Cells.{entry, set_entry, index_from};
+ghost use Rattle.std.specs.Prelude.{◌≡◌, ◌<◌};
+ghost use Rattle.cells.specs.Cells.{entry, set_entry};
 
 pub mod folding;
 pub mod pairs;
@@ -29,16 +28,4 @@ pub fn set_table_entry(table: usize, j: usize, bit: usize) -> usize
     ensures { result ≡ set_entry table j bit }
 {
     (table & !(1 << j)) | (bit << j)
-}
-
-/// The index into a table that known values pick, the first the most significant bit.
-pub fn index_of(values: &[u8]) -> usize
-    requires { (length values.now ≤ MOST_INPUTS) × All (λ v. v < 2) values.now }
-    ensures { (result ≡ index_from 0 values.now) × (result < 2 ^ length values.now) }
-{
-    let mut index = 0;
-    for value in values {
-        index = 2 * index + usize::from(*value);
-    }
-    index
 }

@@ -1,13 +1,13 @@
 -- The first refusal of a call, and what a call leaves.
 -- Assumes nothing.
-use Rattle.std.specs.Prelude.{Err, Ok, is_ok, if◌then◌else◌}
+use Rattle.std.specs.Prelude.{Err, Ok, is_ok}
 use mathlib.Core.Path.{◌≡◌, refl, ap}
 use mathlib.Core.List.{List, ◌++◌}
 use mathlib.Core.Bool.{true, false}
 use Prim.Native.Nat.{ℕ, ◌/◌, ◌<◌, ◌≤◌}
 use lib.Dec.{ltb}
 use borrow.Author.Tests.{ltb-false, lt-ltb, le-ltb}
-use lib.ListN.{length, replicate, drop}
+use lib.ListN.{length, replicate}
 use Rattle.std.proofs.lemmas.Bool.{or_parts}
 use Rattle.std.proofs.lemmas.List.{drop-replicate}
 use Rattle.circuit.specs.declared.records.TheConstants.{NODE_WORDS, OUTPUT_WORDS}
@@ -16,8 +16,16 @@ use Rattle.circuit.specs.declared.refusals.Refusal.TheVariants.{NoRoom, WrongVal
 use Rattle.circuit.specs.Refusals.{Try, Checked, first_fault, check_then}
 use Rattle.circuit.specs.Check.{nodes_in, topological_fault}
 use Rattle.circuit.proofs.Checks.{not_refused}
+use Rattle.circuit.proofs.Tries.{no_yes}
 use Rattle.values.specs.Assignments.{wrong_assignment}
+use Rattle.values.specs.Inner.{with_outputs}
 use Rattle.values.specs.Calls.{assignment_fault, assigned_fault, room_fault, after_call, call_result}
+
+-- ---- a check before an answer
+
+pub check_no : {A : Type 0} (f : Checked) (a : A) (r : Refusal) → ◌≡◌ {A = Try A} (Err r) (check_then f (Ok a)) → f ≡ Err r
+check_no (Err x) a r q = cc
+check_no (Ok u) a r q = absurd (no_yes q)
 
 -- ---- 3
 
@@ -69,9 +77,10 @@ module _ (top : ℕ) (nodes outputs assignment : List ℕ) where
 -- ---- what a call leaves
 
 -- the outputs that are given stand in front of an area of zeros
-pub call_left : (fault : Checked) (count : ℕ) (full before : List ℕ) (size room n : ℕ) (r : Try ℕ) (store after : List ℕ)
-    → r ≡ check_then fault (Ok count) → n ≡ length full → before ≡ replicate room 0 → after ≡ (if is_ok r then full ++ drop n before else before) → store ≡ replicate size 0
-    → call_result r store after ≡ after_call fault count full size room
+pub call_left : (fault : Checked) (count : ℕ) (outputs before : List ℕ) (size room : ℕ) (r : Try ℕ) (store after : List ℕ)
+    → r ≡ check_then fault (Ok count) → before ≡ replicate room 0 → after ≡ with_outputs (is_ok r) outputs before → store ≡ replicate size 0
+    → call_result r store after ≡ after_call fault count outputs size room
 unfolding after_call
-call_left (Ok u) count full before size room n r store after e q b a s = rw (e, s, rw (e, q, b) at a) (ap (λ (l : List ℕ). record { number = 0; count = count; store = replicate size 0; outputs = full ++ l }) (drop-replicate {X = ℕ} (length full) room 0))
-call_left (Err x) count full before size room n r store after e q b a s = rw (e, s, rw (e, b) at a) refl
+call_left (Ok u) count outputs before size room r store after e b a s =
+    rw (e, s, rw (e, b) at a) (ap (λ (l : List ℕ). record { number = 0; count = count; store = replicate size 0; outputs = outputs ++ l }) (drop-replicate {X = ℕ} (length outputs) room 0))
+call_left (Err x) count outputs before size room r store after e b a s = rw (e, s, rw (e, b) at a) refl

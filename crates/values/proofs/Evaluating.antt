@@ -1,7 +1,7 @@
 -- `evaluate`: its first refusal by what is looked at in turn, and its outputs from the store.
 -- Assumes nothing.
 use Rattle.std.specs.Prelude.{Err, Ok}
-use mathlib.Core.Path.{◌≡◌, refl, sym, ◌∙◌}
+use mathlib.Core.Path.{◌≡◌, sym, ◌∙◌}
 use mathlib.Core.List.{List, [], ◌++◌}
 use mathlib.Core.Bool.{true, false, not}
 use Prim.Native.Nat.{ℕ, ◌/◌, ◌<◌, ◌≤◌}
@@ -15,16 +15,18 @@ use Rattle.circuit.specs.declared.records.BoolWire.{BoolWire}
 use Rattle.circuit.specs.declared.records.BoolNode.{BoolNode}
 use Rattle.circuit.specs.declared.refusals.Refusal.{Refusal}
 use Rattle.circuit.specs.declared.refusals.Refusal.TheVariants.{Broken, NoRoom, WrongValues}
-use Rattle.circuit.specs.Refusals.{Try, Checked, refuse_if, first_fault, check_then}
+use Rattle.circuit.specs.Refusals.{Try, refuse_if, first_fault}
 use Rattle.circuit.specs.Check.{some_not_below, check_nodes, check_circuit, whole, nodes_in, wires_in, topological_fault}
 use Rattle.circuit.proofs.Checks.{no_fault, not_refused, topological_whole}
+use Rattle.circuit.proofs.Tries.{check_yes, yes_same}
 use Rattle.values.specs.Values.{entry_of, values_from, outputs_from, evaluated}
 use Rattle.values.specs.Assignments.{input_count}
-use Rattle.values.specs.Inner.{Workable}
+use Rattle.values.specs.Inner.{inputs_or_fault, Workable, outputs_or_fault}
 use Rattle.values.specs.Calls.{assignment_fault, evaluate_fault}
 use Rattle.values.proofs.Inputs.{right_length, wrong_length, assigned}
-use Rattle.values.proofs.Calls.{no_answers, has_room, Room, room_of}
+use Rattle.values.proofs.Calls.{check_no, no_answers, has_room, Room, room_of}
 use Rattle.values.proofs.NodeValues.{length-values}
+use Rattle.values.proofs.OutputValues.{length-outputs}
 use Rattle.values.proofs.Storage.{wires_below}
 
 -- ---- what an accepted call has
@@ -58,34 +60,18 @@ module _ (nodes outputs assignment : List ℕ) (store answers : ℕ) (w : Workab
   abbrev pub count : ℕ
   count = length nodes / NODE_WORDS
 
-  -- what working out the nodes answers
-  abbrev pub worked : Try ℕ
-  worked = check_then (check_nodes count 0 (nodes_in nodes)) (Ok (input_count (nodes_in nodes)))
-
-  -- what the call answers
-  abbrev pub answer : Try ℕ
-  answer = check_then (evaluate_fault nodes outputs assignment store answers) (Ok (length outputs / OUTPUT_WORDS))
-
   by_nodes : topological_fault nodes outputs ≡ first_fault (check_nodes count 0 (nodes_in nodes)) (refuse_if (some_not_below count (wires_in outputs)) Broken)
   by_nodes = topological_whole nodes outputs w.whole_records
 
-  pub faulty_node : (r : Refusal) → ◌≡◌ {A = Try ℕ} (Err r) worked → Err r ≡ answer
+  pub faulty_node : (r : Refusal) → ◌≡◌ {A = Try ℕ} (Err r) (inputs_or_fault nodes count) → Err r ≡ outputs_or_fault nodes outputs assignment store answers
   unfolding evaluate_fault
-  faulty_node r e = rw (by_nodes, stopped (check_nodes count 0 (nodes_in nodes)) e)
-    where
-      stopped : (f : Checked) → ◌≡◌ {A = Try ℕ} (Err r) (check_then f (Ok (input_count (nodes_in nodes)))) → f ≡ Err r
-      stopped (Err x) q = cc
-      stopped (Ok u) q = let z : ◌≡◌ {A = ℕ} 0 1 = cc in absurd (omega arith)
+  faulty_node r e = rw (by_nodes, check_no (check_nodes count 0 (nodes_in nodes)) (input_count (nodes_in nodes)) r e)
 
-  module _ (n : ℕ) (e : ◌≡◌ {A = Try ℕ} (Ok n) worked) where
+  module _ (n : ℕ) (e : ◌≡◌ {A = Try ℕ} (Ok n) (inputs_or_fault nodes count)) where
     passed : (check_nodes count 0 (nodes_in nodes) ≡ Ok tt) × (n ≡ input_count (nodes_in nodes))
-    passed = go (check_nodes count 0 (nodes_in nodes)) e
-      where
-        go : (f : Checked) → ◌≡◌ {A = Try ℕ} (Ok n) (check_then f (Ok (input_count (nodes_in nodes)))) → (f ≡ Ok tt) × (n ≡ input_count (nodes_in nodes))
-        go (Ok u) q = (refl, cc)
-        go (Err x) q = let z : ◌≡◌ {A = ℕ} 0 1 = cc in absurd (omega arith)
+    passed = let y = check_yes (check_nodes count 0 (nodes_in nodes)) (Ok (input_count (nodes_in nodes))) n (sym e) in (y.0, sym (yes_same y.1))
 
-    pub faulty_output : some_not_below count (wires_in outputs) ≡ true → Err Broken ≡ answer
+    pub faulty_output : some_not_below count (wires_in outputs) ≡ true → Err Broken ≡ outputs_or_fault nodes outputs assignment store answers
     unfolding evaluate_fault
     faulty_output o = rw (by_nodes, passed.0, o)
 
@@ -93,7 +79,7 @@ module _ (nodes outputs assignment : List ℕ) (store answers : ℕ) (w : Workab
       checks : topological_fault nodes outputs ≡ Ok tt
       checks = rw (by_nodes, passed.0, o)
 
-      pub faulty_length : (length assignment ≡ n → ⊥) → Err WrongValues ≡ answer
+      pub faulty_length : (length assignment ≡ n → ⊥) → Err WrongValues ≡ outputs_or_fault nodes outputs assignment store answers
       unfolding evaluate_fault assignment_fault
       faulty_length l = rw (checks, sym (wrong_length 1 (nodes_in nodes) assignment (λ q. l (q ∙ sym passed.1))))
 
@@ -102,11 +88,11 @@ module _ (nodes outputs assignment : List ℕ) (store answers : ℕ) (w : Workab
         unfolding assignment_fault
         given = rw (sym (right_length 1 (nodes_in nodes) assignment (l ∙ passed.1)) ∙ w.known)
 
-        pub faulty_room : answers < length outputs / OUTPUT_WORDS → Err NoRoom ≡ answer
+        pub faulty_room : answers < length outputs / OUTPUT_WORDS → Err NoRoom ≡ outputs_or_fault nodes outputs assignment store answers
         unfolding evaluate_fault
         faulty_room h = rw (checks, given, sym (no_answers nodes outputs store answers w.stored h))
 
-        pub faultless : length outputs / OUTPUT_WORDS ≤ answers → Ok (length outputs / OUTPUT_WORDS) ≡ answer
+        pub faultless : length outputs / OUTPUT_WORDS ≤ answers → Ok (length outputs / OUTPUT_WORDS) ≡ outputs_or_fault nodes outputs assignment store answers
         unfolding evaluate_fault
         faultless h = rw (checks, given, sym (has_room nodes outputs store answers w.stored h))
 
@@ -119,3 +105,7 @@ unfolding evaluated outputs_from
 outputs_kept ns os assignment rest h =
     let values = values_from entry_of assignment 0 [] ns in
     wires_below (values ++ rest) values (length ns) (λ i b. get_or-append values rest 0 i (omega (arith, b, length-values entry_of assignment ns))) os h
+
+pub evaluated_count : (ns : List BoolNode) (outputs assignment : List ℕ) → length (evaluated ns (wires_in outputs) assignment) ≡ length outputs / OUTPUT_WORDS
+unfolding evaluated
+evaluated_count ns outputs assignment = length-outputs (values_from entry_of assignment 0 [] ns) outputs (length outputs / OUTPUT_WORDS)

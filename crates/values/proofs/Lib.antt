@@ -4,6 +4,7 @@ pub mod Storage
 pub mod Inputs
 pub mod SoundCells
 pub mod OutputValues
+pub mod Entries
 pub mod Valued
 pub mod Calls
 pub mod Evaluating

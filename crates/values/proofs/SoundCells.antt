@@ -1,9 +1,8 @@
 -- The values that are read of a node's wires, and the answer of a sound cell by them.
 -- Assumes nothing.
-use Rattle.std.proofs.Common.{ℕ, ◌<◌, ◌≡◌, true, false, List, [], ◌∷◌, map, length, take, get_or, sym, ap, ◌∙◌, arith}
+use Rattle.std.proofs.Common.{ℕ, ◌<◌, ◌≡◌, true, false, List, [], ◌∷◌, map, length, get_or, refl, sym, ap, ◌∙◌, arith}
 use borrow.Author.Tests.{eqb-true, leb-false}
 use Rattle.std.proofs.lemmas.Bool.{or_parts}
-use Rattle.std.proofs.lemmas.List.{length-map}
 use Rattle.laws.proofs.Lists.{none_at}
 use Rattle.cells.specs.Cells.{cell_rule}
 use Rattle.circuit.specs.declared.records.BoolWire.{BoolWire}
@@ -22,15 +21,6 @@ use Rattle.values.proofs.Inputs.{known_at}
 pub supplied : (m : ℕ) (n : BoolNode) → some_not_below m (wires_of n) ≡ false → (k : ℕ) → k < length (wires_of n) → not_below m (get_or (wires_of n) k no_wire) ≡ false
 supplied m n e k h = none_at (not_below m) (wires_of n) no_wire k h e
 
-two_of : (read l : List ℕ) (n : ℕ) → n ≡ 2 → take n read ≡ l → length l ≡ 2 → l ≡ get_or read 0 0 ∷ get_or read 1 0 ∷ []
-two_of [] l n p q e =
-    let z : ◌≡◌ {A = ℕ} 0 2 = sym (ap (λ (m : ℕ). length (take {A = ℕ} m [])) p) ∙ ap length q ∙ e in
-    absurd (omega arith)
-two_of (x ∷ []) l n p q e =
-    let z : ◌≡◌ {A = ℕ} 1 2 = sym (ap (λ (m : ℕ). length (take m (x ∷ []))) p) ∙ ap length q ∙ e in
-    absurd (omega arith)
-two_of (x ∷ y ∷ r) l n p q e = rw (sym q, p)
-
 module _ (m : ℕ) (n : BoolNode) (s : SoundCell m n) where
   kind : n.kind ≡ CELL
   unfolding is_cell_node
@@ -47,18 +37,24 @@ module _ (m : ℕ) (n : BoolNode) (s : SoundCell m n) where
   unfolding record_broken cell_broken
   small_table e = leb-false 16 n.table (rw (kind, e) at parts.0)
 
-  two_wires : n.count ≡ 2 → length (wires_of n) ≡ 2
+  pub two_wires : n.count ≡ 2 → length (wires_of n) ≡ 2
   two_wires e = rw (cell_wires n kind, e) (few_places n.wires 2)
 
-  module _ (values read : List ℕ) (r : ℕ) (all : take (length (wires_of n)) read ≡ map (signal_value values) (wires_of n)) where
-    pub answer_pair : n.count ≡ 2 → r ≡ cell_rule n.table (get_or read 0 0 ∷ get_or read 1 0 ∷ []) → r ≡ answer_of values n
+  module _ (values : List ℕ) where
+    pub answer_pair : n.count ≡ 2 → (a b r : ℕ) → a ≡ signal_value values (get_or (wires_of n) 0 no_wire) → b ≡ signal_value values (get_or (wires_of n) 1 no_wire)
+        → (t : ℕ) → t ≡ n.table → r ≡ cell_rule t (a ∷ b ∷ []) → r ≡ answer_of values n
     unfolding answer_of
-    answer_pair e q =
-        q ∙ sym (ap (cell_rule n.table) (two_of read _ (length (wires_of n)) (two_wires e) all (length-map (wires_of n) (signal_value values) ∙ two_wires e)))
+    answer_pair e a b r p q t f u = u ∙ rw (p, q, f) (sym (ap (λ (ws : List BoolWire). cell_rule n.table (map (signal_value values) ws)) (two_of (wires_of n) (two_wires e))))
+      where
+        two_of : (ws : List BoolWire) → length ws ≡ 2 → ws ≡ get_or ws 0 no_wire ∷ get_or ws 1 no_wire ∷ []
+        two_of [] h = absurd (omega arith)
+        two_of (x ∷ []) h = absurd (omega arith)
+        two_of (x ∷ y ∷ []) h = refl
+        two_of (x ∷ y ∷ z ∷ ws) h = absurd (omega arith)
 
-    pub answer_filled : (c : ℕ) → c ≡ length (wires_of n) → r ≡ cell_rule n.table (take c read) → r ≡ answer_of values n
+    pub answer_filled : (read : List ℕ) (r : ℕ) → read ≡ map (signal_value values) (wires_of n) → (t : ℕ) → t ≡ n.table → r ≡ cell_rule t read → r ≡ answer_of values n
     unfolding answer_of
-    answer_filled c e q = q ∙ ap (cell_rule n.table) (ap (λ (k : ℕ). take k read) e ∙ all)
+    answer_filled read r e t f q = q ∙ rw (f, e)
 
 -- ---- values without unknowns
 

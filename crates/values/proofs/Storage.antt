@@ -105,15 +105,15 @@ pub answer_entry : (s : List ℕ) → Known s → (n : BoolNode) → answer_of s
 unfolding answer_of entry_of
 answer_entry s h n = rule_known n.table (map (signal_value s) (wires_of n)) (wires_known s h (wires_of n))
 
-entry_known : (s : List ℕ) (n : BoolNode) → entry_of s n < 2
+pub entry_small : (s : List ℕ) (n : BoolNode) → entry_of s n < 2
 unfolding entry_of
-entry_known s n = entry-bit n.table (index_from 0 (map (signal_value s) (wires_of n)))
+entry_small s n = entry-bit n.table (index_from 0 (map (signal_value s) (wires_of n)))
 
 pub values_known : (a : List ℕ) → Known a → (ns : List BoolNode) (p : ℕ) (s : List ℕ) → Known s → Known (values_from entry_of a p s ns)
 unfolding values_from
 values_known a e [] p s h = h
 values_known a e (n ∷ ns) p s h =
-    cond_both Known (is_cell_node n) _ _ (values_known a e ns p (s ++ entry_of s n ∷ []) (known_snoc s (entry_of s n) h (entry_known s n)))
+    cond_both Known (is_cell_node n) _ _ (values_known a e ns p (s ++ entry_of s n ∷ []) (known_snoc s (entry_of s n) h (entry_small s n)))
     (values_known a e ns (suc p) (s ++ get_or a p 0 ∷ []) (known_snoc s (get_or a p 0) h (e p)))
 
 pub values_same : (a : List ℕ) → Known a → (ns : List BoolNode) (p : ℕ) (s : List ℕ) → Known s → values_from answer_of a p s ns ≡ values_from entry_of a p s ns
@@ -121,7 +121,7 @@ unfolding values_from
 values_same a e [] p s h = refl
 values_same a e (n ∷ ns) p s h =
     ap₂ (cond (is_cell_node n))
-    (ap (λ (v : ℕ). values_from answer_of a p (s ++ v ∷ []) ns) (answer_entry s h n) ∙ values_same a e ns p (s ++ entry_of s n ∷ []) (known_snoc s (entry_of s n) h (entry_known s n)))
+    (ap (λ (v : ℕ). values_from answer_of a p (s ++ v ∷ []) ns) (answer_entry s h n) ∙ values_same a e ns p (s ++ entry_of s n ∷ []) (known_snoc s (entry_of s n) h (entry_small s n)))
     (values_same a e ns (suc p) (s ++ get_or a p 0 ∷ []) (known_snoc s (get_or a p 0) h (e p)))
 
 pub evaluate_same : (ns : List BoolNode) (os : List BoolWire) (a : List ℕ) → Known a → storage_outputs ns os a ≡ evaluated ns os a

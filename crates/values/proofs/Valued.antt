@@ -2,25 +2,27 @@
 -- Assumes nothing.
 use Rattle.std.specs.Prelude.{Err, Ok}
 use Rattle.std.proofs.Common.{ℕ, suc, ◌+◌, ◌<◌, ◌≤◌, ◌≡◌, Bool, true, false, cond, List, [], ◌∷◌, ◌++◌, length, take, drop, get_or, set, refl, sym, ap, ap₂, ◌∙◌, subst, arith, add-one, add-zero, length-set}
-use lib.Seq.{length-take-le}
 use Rattle.std.proofs.Math.Seq.{take-suc-set}
 use Rattle.std.proofs.lemmas.List.{drop-set-lt, drop-drop, take-append-drop}
 use Rattle.laws.proofs.Areas.{up_more}
+use Rattle.laws.proofs.Filling.{cond_both}
 use Rattle.laws.proofs.Stretches.{all_append}
 use Rattle.circuit.specs.declared.records.BoolNode.{BoolNode}
 use Rattle.circuit.specs.declared.refusals.Refusal.{Refusal}
 use Rattle.circuit.specs.Refusals.{Try, Checked, check_then}
-use Rattle.circuit.specs.Records.{node_at, nodes_of, is_cell_node, wires_of}
-use Rattle.circuit.specs.Check.{check_node, check_nodes, some_not_below}
-use Rattle.circuit.proofs.Checks.{rest, scan_start, scan_end, scan_fault, scan_passed, node_passed}
+use Rattle.circuit.specs.Records.{node_at, nodes_of, is_cell_node}
+use Rattle.circuit.specs.Check.{check_node, check_nodes}
+use Rattle.circuit.proofs.Checks.{rest, scan_start, scan_end, scan_fault, scan_passed}
+use Rattle.circuit.proofs.Tries.{check_yes, yes_same}
 use Rattle.values.specs.Values.{entry_of, values_from}
 use Rattle.values.specs.Assignments.{input_count}
-use Rattle.values.specs.Inner.{TwoValued, value_of}
-use Rattle.values.proofs.Inputs.{from, from_start, from_end, count_turn, cond_small}
+use Rattle.values.specs.Inner.{TwoValued, value_of, value_or_fault, inputs_or_fault, with_values}
+use Rattle.values.proofs.Inputs.{from, from_start, from_end, count_turn, cond_small, known_at}
+use Rattle.values.proofs.Storage.{entry_small}
+use Rattle.values.proofs.Calls.{check_no}
 
--- the answer: the number of inputs, or the first fault of a node
-abbrev pub answer : List ℕ → ℕ → Try ℕ
-answer a m = check_then (check_nodes m 0 (nodes_of a m)) (Ok (input_count (nodes_of a m)))
+value_small : (given before : List ℕ) (p : ℕ) (n : BoolNode) → TwoValued given → value_of entry_of given p before n < 2
+value_small given before p n h = cond_both (λ (v : ℕ). v < 2) (is_cell_node n) _ _ (entry_small before n) (known_at given h p)
 
 module _ (a : List ℕ) (m : ℕ) where
   -- k nodes are sound and have their values, p of them inputs
@@ -48,54 +50,50 @@ module _ (a : List ℕ) (m : ℕ) where
       }
 
   module _ (given old : List ℕ) (k p : ℕ) (values : List ℕ) (s : Valued given old k p values) where
-    module _ (h : k < m) (n : BoolNode) (e : n ≡ node_at a k) where
-      -- a fault of the next node is the first
-      pub valued_fault : (r : Refusal) → check_node m k n ≡ Err r → ◌≡◌ {A = Try ℕ} (Err r) (answer a m)
-      valued_fault r q = sym (ap (λ (f : Checked). check_then f (Ok (input_count (nodes_of a m)))) (s.checked ∙ scan_fault a m k h n e r q))
+    module _ (h : k < m) where
+      -- a fault of it is the first
+      pub valued_fault : (r : Refusal) → ◌≡◌ {A = Try ℕ} (Err r) (value_or_fault a m k given p (take k values)) → ◌≡◌ {A = Try ℕ} (Err r) (inputs_or_fault a m)
+      valued_fault r q =
+          sym (ap (λ (f : Checked). check_then f (Ok (input_count (nodes_of a m)))) (s.checked ∙ scan_fault a m k h (node_at a k) refl r (check_no _ _ r q)))
 
-      module _ (q : check_node m k n ≡ Ok tt) where
-        -- its wires are of nodes that have their values
-        pub valued_wired : m ≤ length old → some_not_below (length (take k values)) (wires_of n) ≡ false
-        valued_wired room =
-            let size : length (take k values) ≡ k = length-take-le k values (omega (arith, s.same)) in
-            ap (λ (j : ℕ). some_not_below j (wires_of n)) size ∙ (node_passed m k n q).earlier
-
-        pub valued_next : m ≤ length old → (v : ℕ) → v ≡ value_of entry_of given p (take k values) n → v < 2 → (r : ℕ) → r ≡ cond (is_cell_node (node_at a k)) 0 1
-            → Valued given old (k + 1) (p + r) (set values k v)
-        unfolding values_from
-        valued_next room v f small r c =
-            let inside : k < length values = omega (arith, s.same) in
-            let front : take (k + 1) (set values k v) ≡ take k values ++ v ∷ [] = rw add-one (take-suc-set values k v inside) in
-            let w : v ≡ value_of entry_of given p (take k values) (node_at a k) = f ∙ ap (value_of entry_of given p (take k values)) e in
-            record {
-              inside = omega arith;
-              same = length-set values k v ∙ s.same;
-              whole =
-                  ap₂ (λ (x : ℕ) (l : List ℕ). values_from entry_of given (p + x) l (from a m (k + 1))) c (front ∙ ap (λ (x : ℕ). take k values ++ x ∷ []) w)
-                  ∙ turn (is_cell_node (node_at a k)) (take k values) (entry_of (take k values) (node_at a k))
-                  ∙ sym (ap (values_from entry_of given p (take k values)) (up_more (node_at a) k m h))
-                  ∙ s.whole;
-              rest_kept = drop-set-lt (k + 1) values k v (omega arith) ∙ sym (drop-drop 1 k values) ∙ ap (drop 1) s.rest_kept ∙ drop-drop 1 k old;
-              known = subst TwoValued (sym front) (all_append (λ x. x < 2) (take k values) (v ∷ []) s.known (small, tt));
-              few = omega (arith, s.few, c, cond_small (is_cell_node (node_at a k)));
-              counted = omega (arith, count_turn a m k h, s.counted, c);
-              checked = s.checked ∙ scan_passed a m k h n e q;
-            }
-          where
-            turn : (b : Bool) (l : List ℕ) (x : ℕ) → values_from entry_of given (p + cond b 0 1) (l ++ cond b x (get_or given p 0) ∷ []) (from a m (k + 1))
-                ≡ cond b (values_from entry_of given p (l ++ x ∷ []) (from a m (k + 1))) (values_from entry_of given (suc p) (l ++ get_or given p 0 ∷ []) (from a m (k + 1)))
-            turn true l x = ap (λ (n : ℕ). values_from entry_of given n (l ++ x ∷ []) (from a m (k + 1))) (add-zero p)
-            turn false l x = ap (λ (n : ℕ). values_from entry_of given n (l ++ get_or given p 0 ∷ []) (from a m (k + 1))) (add-one p)
+      pub valued_next : m ≤ length old → TwoValued given → (v : ℕ) → ◌≡◌ {A = Try ℕ} (Ok v) (value_or_fault a m k given p (take k values)) → (r : ℕ) → r ≡ cond (is_cell_node (node_at a k)) 0 1
+          → Valued given old (k + 1) (p + r) (set values k v)
+      unfolding values_from
+      valued_next room bits v q r c =
+          let y = check_yes (check_node m k (node_at a k)) (Ok (value_of entry_of given p (take k values) (node_at a k))) v (sym q) in
+          let f : v ≡ value_of entry_of given p (take k values) (node_at a k) = sym (yes_same y.1) in
+          let small : v < 2 = subst (λ (x : ℕ). x < 2) (sym f) (value_small given (take k values) p (node_at a k) bits) in
+          let inside : k < length values = omega (arith, s.same) in
+          let front : take (k + 1) (set values k v) ≡ take k values ++ v ∷ [] = rw add-one (take-suc-set values k v inside) in
+          record {
+            inside = omega arith;
+            same = length-set values k v ∙ s.same;
+            whole =
+                ap₂ (λ (x : ℕ) (l : List ℕ). values_from entry_of given (p + x) l (from a m (k + 1))) c (front ∙ ap (λ (x : ℕ). take k values ++ x ∷ []) f)
+                ∙ turn (is_cell_node (node_at a k)) (take k values) (entry_of (take k values) (node_at a k))
+                ∙ sym (ap (values_from entry_of given p (take k values)) (up_more (node_at a) k m h))
+                ∙ s.whole;
+            rest_kept = drop-set-lt (k + 1) values k v (omega arith) ∙ sym (drop-drop 1 k values) ∙ ap (drop 1) s.rest_kept ∙ drop-drop 1 k old;
+            known = subst TwoValued (sym front) (all_append (λ x. x < 2) (take k values) (v ∷ []) s.known (small, tt));
+            few = omega (arith, s.few, c, cond_small (is_cell_node (node_at a k)));
+            counted = omega (arith, count_turn a m k h, s.counted, c);
+            checked = s.checked ∙ scan_passed a m k h (node_at a k) refl y.0;
+          }
+        where
+          turn : (b : Bool) (l : List ℕ) (x : ℕ) → values_from entry_of given (p + cond b 0 1) (l ++ cond b x (get_or given p 0) ∷ []) (from a m (k + 1))
+              ≡ cond b (values_from entry_of given p (l ++ x ∷ []) (from a m (k + 1))) (values_from entry_of given (suc p) (l ++ get_or given p 0 ∷ []) (from a m (k + 1)))
+          turn true l x = ap (λ (n : ℕ). values_from entry_of given n (l ++ x ∷ []) (from a m (k + 1))) (add-zero p)
+          turn false l x = ap (λ (n : ℕ). values_from entry_of given n (l ++ get_or given p 0 ∷ []) (from a m (k + 1))) (add-one p)
 
     module _ (h : m ≤ k) where
-      pub valued_answer : ◌≡◌ {A = Try ℕ} (Ok p) (answer a m)
+      pub valued_answer : ◌≡◌ {A = Try ℕ} (Ok p) (inputs_or_fault a m)
       unfolding input_count
       valued_answer =
           let z : input_count (from a m k) ≡ input_count [] = ap input_count (from_end a m k h) in
           let n : p ≡ input_count (nodes_of a m) = omega (arith, s.counted, z) in
           rw (s.checked ∙ scan_end a m k h) (ap Ok n)
 
-      pub valued_all : values ≡ values_from entry_of given 0 [] (nodes_of a m) ++ drop m old
+      pub valued_all : values ≡ with_values a m given old
       unfolding values_from
       valued_all =
           let e : k ≡ m = omega (arith, s.inside) in

@@ -1,36 +1,73 @@
 // `evaluate`: the outputs of a circuit for one assignment without unknowns.
-ghost use Rattle.std.specs.Prelude.{◌≡◌, false, if◌then◌else◌, [], ◌++◌, ◌/◌, ◌<◌, ◌≤◌, length, drop, Err, Ok, is_ok, IsOk, OnOk};
-ghost use Rattle.circuit.specs.declared.records.TheConstants.{OUTPUT_WORDS};
-ghost use Rattle.circuit.specs.Records.{wires_of, nodes_of};
-ghost use Rattle.circuit.specs.Check.{some_not_below, check_nodes, nodes_in, wires_in};
-ghost use Rattle.circuit.specs.Refusals.{check_then};
-ghost use Rattle.values.specs.Values.{entry_of, values_from, evaluated};
-ghost use Rattle.values.specs.Assignments.{input_count};
-ghost use Rattle.values.specs.Inner.{TwoValued, value_of, Begun};
+ghost use Rattle.std.specs.Prelude.{◌≡◌, ◌∷◌, [], ◌<◌, ◌≤◌, length, is_ok, IsOk};
+ghost use Rattle.circuit.specs.Check.{check_wires, nodes_in, wires_in};
+ghost use Rattle.values.specs.Values.{evaluated};
+ghost use Rattle.values.specs.Inner.{TwoValued, entry_or_fault, value_or_fault, inputs_or_fault, with_values, Begun, outputs_or_fault, with_outputs};
 ghost use Rattle.values.specs.Calls.{evaluate_fault, evaluate_call, call_result};
 
 use crate::assignments::{assigned_fault, some_above};
-use crate::cell::entry;
+use crate::cell::wire_value;
 use crate::outputs::{put_outputs, room_fault};
-use circuit::check::{are_whole, check_node, output_outside};
+use cells::table_entry;
+use circuit::check::{are_whole, not_below, output_outside, record_broken};
 use circuit::nodes::{Nodes, Outputs};
-use circuit::records::{BoolNode, CELL, NODE_WORDS};
+use circuit::records::{BoolWire, CELL, NODE_WORDS, wire_count};
 use circuit::refusals::Refusal;
 
-/// The value of a node, after `before`, the values of the nodes before it: a cell's entry; of an input, the value at place `input` of the assignment, 0 past its end.
-#[tactic(auto, unfolding(circuit::specs::Records::is_cell_node), using(crate::proofs::Inputs::known_at))]
-pub fn node_value(n: BoolNode, assignment: &[u8], input: usize, before: &[u8]) -> u8
-    requires wired { some_not_below (length before.now) (wires_of n) ≡ false }
-    requires known { TwoValued assignment.now × TwoValued before.now }
-    ensures { (result ≡ value_of entry_of assignment.now input before.now n) × (result < 2) }
+/// A wire of node i of m: `Broken` where it is of no node of the circuit, `NotEarlier` where it is of a node that is not before i.
+#[tactic(auto, unfolding(circuit::specs::Check::check_wires))]
+pub fn check_wire(wire: BoolWire, m: usize, i: usize) -> Result<(), Refusal>
+    ensures { result ≡ check_wires m i (wire ∷ []) }
 {
+    if not_below(wire, m) {
+        return Err(Refusal::Broken);
+    }
+    if not_below(wire, i) {
+        return Err(Refusal::NotEarlier);
+    }
+    Ok(())
+}
+
+/// The entry of cell i at the index that the values of its wires pick, each wire checked before it is read. `before` has the values of the nodes before it.
+pub fn entry(nodes: Nodes, i: usize, before: &[u8]) -> Result<u8, Refusal>
+    requires inside { (i < nodes.count) × (length before.now ≡ i) }
+    requires known { TwoValued before.now }
+    ensures { result ≡ entry_or_fault nodes.entry.words.now nodes.entry.count i before.now }
+{
+    let n = nodes.at(i);
+    let mut index = 0;
+    for k in 0..wire_count(n) {
+        let wire = nodes.wire(i, k);
+        check_wire(wire, nodes.count, i)?;
+        index = 2 * index + usize::from(wire_value(wire, before));
+    }
+    Ok(table_entry(n.table, index) as u8)
+}
+
+/// The value of node i once it is checked: a cell's entry; of an input, the value at place `input` of the assignment, 0 past its end.
+#[tactic(auto, unfolding(circuit::specs::Check::check_node, circuit::specs::Check::check_wires, circuit::specs::Records::wires_of, circuit::specs::Records::is_cell_node))]
+pub fn node_value(
+    nodes: Nodes,
+    i: usize,
+    assignment: &[u8],
+    input: usize,
+    before: &[u8],
+) -> Result<u8, Refusal>
+    requires inside { (i < nodes.count) × (length before.now ≡ i) }
+    requires known { TwoValued before.now }
+    ensures { result ≡ value_or_fault nodes.entry.words.now nodes.entry.count i assignment.now input before.now }
+{
+    let n = nodes.at(i);
+    if record_broken(n) {
+        return Err(Refusal::Broken);
+    }
     if n.kind == CELL {
-        return entry(n, before);
+        return entry(nodes, i, before);
     }
     if assignment.len() <= input {
-        return 0;
+        return Ok(0);
     }
-    assignment[input]
+    Ok(assignment[input])
 }
 
 /// The value of each node, in front of `values`: in storage order each is checked, then worked out. The answer is the number of inputs, or the refusal of
@@ -38,14 +75,12 @@ pub fn node_value(n: BoolNode, assignment: &[u8], input: usize, before: &[u8]) -
 pub fn put_values(nodes: Nodes, assignment: &[u8], values: &mut [u8]) -> Result<usize, Refusal>
     requires stored { nodes.count ≤ length values.old }
     requires known { TwoValued assignment.now }
-    ensures checked { result ≡ check_then (check_nodes nodes.entry.count 0 (nodes_of nodes.entry.words.now nodes.entry.count)) (Ok (input_count (nodes_of nodes.entry.words.now nodes.entry.count))) }
-    ensures worked_out { IsOk result → values.new ≡ values_from entry_of assignment.now 0 [] (nodes_of nodes.entry.words.now nodes.entry.count) ++ drop nodes.entry.count values.old }
+    ensures checked { result ≡ inputs_or_fault nodes.entry.words.now nodes.entry.count }
+    ensures worked_out { IsOk result → values.new ≡ with_values nodes.entry.words.now nodes.entry.count assignment.now values.old }
 {
     let mut inputs = 0;
     for i in 0..nodes.count {
-        let n = nodes.at(i);
-        check_node(n, nodes.count, i)?;
-        values[i] = node_value(n, assignment, inputs, &values[..i]);
+        values[i] = node_value(nodes, i, assignment, inputs, &values[..i])?;
         inputs += usize::from(!nodes.is_cell(i));
     }
     Ok(inputs)
@@ -89,8 +124,8 @@ pub fn work_out(
     values: &mut [u8],
     answers: &mut [u8],
 ) -> Result<usize, Refusal>
-    ensures checked { result ≡ check_then (evaluate_fault nodes.now outputs.now assignment.now (length values.old) (length answers.old)) (Ok (length outputs.now / OUTPUT_WORDS)) }
-    ensures given { answers.new ≡ (if is_ok result then evaluated (nodes_in nodes.now) (wires_in outputs.now) assignment.now ++ drop (length outputs.now / OUTPUT_WORDS) answers.old else answers.old) }
+    ensures checked { result ≡ outputs_or_fault nodes.now outputs.now assignment.now (length values.old) (length answers.old) }
+    ensures given { answers.new ≡ with_outputs (is_ok result) (evaluated (nodes_in nodes.now) (wires_in outputs.now) assignment.now) answers.old }
 {
     begin(nodes, outputs, assignment, values.len(), answers.len())?;
     let nodes = Nodes::of(nodes);

@@ -1,13 +1,13 @@
-use Rattle.std.proofs.Common.{ℕ, List, ◌++◌, ◌/◌, ◌≤◌, length, drop, refl, sym, ap, ◌∙◌, arith}
+use Rattle.std.proofs.Common.{ℕ, List, ◌++◌, ◌/◌, ◌≤◌, length, drop, refl, sym, ap, ap₂, ◌∙◌, arith}
 use Rattle.std.proofs.lemmas.Result.{err_from_is_err_and}
-use Rattle.circuit.specs.declared.records.TheConstants.{NODE_WORDS, OUTPUT_WORDS}
+use Rattle.circuit.specs.declared.records.TheConstants.{NODE_WORDS}
 use Rattle.circuit.specs.Records.{output_wires}
 use Rattle.circuit.specs.Check.{some_not_below, nodes_in, wires_in}
 use Rattle.circuit.proofs.Checks.{all_below_more}
 use Rattle.circuit.proofs.Codes.{length_nodes}
 use Rattle.values.specs.Values.{outputs_from}
 use Rattle.values.proofs.Inputs.{two_valued}
-use Rattle.values.proofs.Evaluating.{faulty_node, faulty_output, faulty_length, faulty_room, faultless, outputs_kept}
+use Rattle.values.proofs.Evaluating.{faulty_node, faulty_output, faulty_length, faulty_room, faultless, outputs_kept, evaluated_count}
 use Rattle.values.proofs.evaluate.work_out.Goals as goal
 
 pub put_values-requires-clause-known : goal.put_values-requires-clause-known
@@ -60,5 +60,5 @@ returns-clause-given c =
     let v = rw (c.of-nodes.ensures.0, c.of-nodes.ensures.1) at (c.in_ok-inputs.ensures.worked_out refl) in
     let p = rw (c.of-outputs.ensures.0, c.of-outputs.ensures.1) at c.put_outputs.ensures in
     let below = ap (λ (k : ℕ). some_not_below k (wires_in c.args.outputs.now)) (length_nodes c.args.nodes.now m) ∙ sym o in
-    p ∙ ap (λ (l : List ℕ). l ++ drop (length c.args.outputs.now / OUTPUT_WORDS) c.args.answers.now)
-    (ap (λ (l : List ℕ). outputs_from l (wires_in c.args.outputs.now)) v ∙ outputs_kept (nodes_in c.args.nodes.now) (wires_in c.args.outputs.now) c.args.assignment.now (drop m c.args.values.now) below)
+    let given = ap (λ (l : List ℕ). outputs_from l (wires_in c.args.outputs.now)) v ∙ outputs_kept (nodes_in c.args.nodes.now) (wires_in c.args.outputs.now) c.args.assignment.now (drop m c.args.values.now) below in
+    p ∙ ap₂ (λ (l : List ℕ) (k : ℕ). l ++ drop k c.args.answers.now) given (sym (evaluated_count (nodes_in c.args.nodes.now) c.args.outputs.now c.args.assignment.now))
