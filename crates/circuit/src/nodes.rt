@@ -78,7 +78,8 @@ impl<'a> Records<'a, NODE_WORDS> {
         }
     }
 
-    /// Wire k of node i.
+    /// Wire k of node i, from its word alone.
+    #[tactic(auto, using(crate::proofs::Places::few_wires))]
     pub fn wire(self, i: usize, k: usize) -> BoolWire
         requires { (i < self.count) × (k < length (wires_of (node_at self.words.now i))) }
         ensures { result ≡ get_or (wires_of (node_at self.entry.words.now i)) k no_wire }

@@ -4,15 +4,6 @@ use Rattle.circuit.specs.Records.{node_at, wire_of}
 use Rattle.circuit.proofs.Places.{few_wires, wire_is, wire_from}
 use Rattle.circuit.proofs.nodes.Records+NODE_WORDS.wire.Goals as goal
 
-pub overflow_add-i-2 : goal.overflow_add-i-2
-overflow_add-i-2 c = let few = few_wires (node_at c.args.self.words.now c.args.i) in omega (arith, few, c.requires.1)
-
-pub bounds-self-i : goal.bounds-self-i
-bounds-self-i c = let few = few_wires (node_at c.args.self.words.now c.args.i) in omega (arith, few, c.requires.1)
-
-pub offset_bounds-self-i : goal.offset_bounds-self-i
-offset_bounds-self-i c = let few = few_wires (node_at c.args.self.words.now c.args.i) in record { fits = omega (arith, few, c.requires.1) }
-
 pub returns : goal.returns
 returns c =
     let words = c.args.self.words.now in
