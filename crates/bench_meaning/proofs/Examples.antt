@@ -10,7 +10,7 @@ use Rattle.circuit.specs.Records.{is_cell_node, wires_of}
 use Rattle.text.specs.declared.words.Word.{Word}
 use Rattle.names.specs.Names.{Entry}
 use Rattle.reading.specs.Reading.{Places, Held, add_name, add_node, add_alias, add_named, input_node}
-use Rattle.runs.specs.Values.{answer_of, values_from, storage_values}
+use Rattle.values.specs.Values.{answer_of, values_from, storage_values}
 use Rattle.bench_gates.specs.declared.operations.Operation.{Operation}
 use Rattle.bench_gates.specs.declared.operations.Operation.TheVariants.{Buf, Not, Chain}
 use Rattle.bench_gates.specs.declared.operations.Binary.{Binary}

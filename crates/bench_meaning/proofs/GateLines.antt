@@ -18,8 +18,8 @@ use Rattle.text.specs.declared.words.Word.{Word}
 use Rattle.reading.specs.Reading.{Places, Held, find, driver, add_named, input_node, add_input}
 use Rattle.reading.proofs.States.{undefined_yes}
 use Rattle.reading.proofs.Sound.{find_below}
-use Rattle.runs.specs.Runs.{input_count}
-use Rattle.runs.proofs.NodeValues.{count_append}
+use Rattle.values.specs.Assignments.{input_count}
+use Rattle.values.proofs.NodeValues.{count_append}
 use Rattle.bench_invocations.specs.Invocations.{Invoked, parse_invocation}
 use Rattle.bench_gates.specs.declared.operations.Operation.{Operation}
 use Rattle.bench_gates.specs.Operations.{operation_of}

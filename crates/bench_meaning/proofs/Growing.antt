@@ -14,7 +14,7 @@ use Rattle.reading.specs.Reading.{Held, find}
 use Rattle.reading.proofs.Ended.{wire_at}
 use Rattle.reading.proofs.Sound.{Wired, wired_more, find_below}
 use Rattle.reading.proofs.Growing.{Known, Grows as GrowsBy, value_kept, values_kept}
-use Rattle.runs.specs.Values.{signal_value, storage_values}
+use Rattle.values.specs.Values.{signal_value, storage_values}
 use Rattle.bench_meaning.specs.GateMeaning.{wire_value, Carries}
 use Rattle.bench_meaning.specs.TextMeaning.{name_value}
 use Rattle.reading.proofs.Made.{entry}

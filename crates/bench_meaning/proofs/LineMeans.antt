@@ -17,7 +17,7 @@ use Rattle.reading.specs.Reading.{Places, Held, State, find, add_input, add_outp
 use Rattle.reading.specs.States.{with_held, with_outputs}
 use Rattle.reading.proofs.Made.{output_made}
 use Rattle.reading.proofs.States.{held_yes, outputs-yes}
-use Rattle.runs.specs.Runs.{input_count}
+use Rattle.values.specs.Assignments.{input_count}
 use Rattle.text.specs.Words.{between}
 use Rattle.bench_invocations.specs.Invocations.{Invoked, parse_invocation}
 use Rattle.bench.specs.declared.declarations.Declaration.{Declaration}

@@ -18,7 +18,7 @@ use Rattle.names.specs.Names.{lookup}
 use Rattle.reading.specs.Reading.{bytes_fault, text_fault, find, add_name, add_node, add_named, add_input, add_output, each, resolve, closed, finish}
 use Rattle.reading.specs.Areas.{read_text}
 use Rattle.reading.proofs.Sound.{wires_out}
-use Rattle.runs.specs.Values.{answer_of, values_from, outputs_from, storage_values, storage_outputs}
+use Rattle.values.specs.Values.{answer_of, values_from, outputs_from, storage_values, storage_outputs}
 use Rattle.bench_invocations.specs.Invocations.{arguments_of, none_empty, parts, up_to_last, invocation, parse_invocation}
 use Rattle.bench_gates.specs.declared.operations.Operation.TheVariants.{Chain}
 use Rattle.bench_gates.specs.declared.operations.Binary.TheVariants.{Nand}

@@ -24,9 +24,9 @@ use Rattle.reading.specs.Reading.{Places, places_in, Held, State, start, text_fa
 use Rattle.reading.specs.Areas.{read_text}
 use Rattle.reading.proofs.Sound.{wires_out}
 use Rattle.cells.proofs.Rule.{Each}
-use Rattle.runs.specs.Values.{signal_value, outputs_from, storage_values, storage_outputs}
-use Rattle.runs.specs.Runs.{input_count}
-use Rattle.runs.proofs.Storage.{Known, evaluate_same, outputs_known}
+use Rattle.values.specs.Values.{signal_value, outputs_from, storage_values, storage_outputs}
+use Rattle.values.specs.Assignments.{input_count}
+use Rattle.values.proofs.Storage.{Known, evaluate_same, outputs_known}
 use Rattle.bench.specs.Bench.{read_line, bench_lines, bench}
 use Rattle.bench_meaning.specs.GateMeaning.{wire_value}
 use Rattle.bench_meaning.specs.Operations.{operation_bit}

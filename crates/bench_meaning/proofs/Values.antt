@@ -11,9 +11,9 @@ use Rattle.circuit.specs.declared.records.Name.{Name}
 use Rattle.circuit.specs.declared.records.BoolNode.{BoolNode}
 use Rattle.circuit.specs.Records.{is_cell_node, wires_of}
 use Rattle.cells.specs.Cells.{cell_rule}
-use Rattle.runs.specs.Values.{answer_of, values_from, storage_values}
-use Rattle.runs.specs.Runs.{input_count}
-use Rattle.runs.proofs.WireValues.{wire_kept as kept_by, wire_new as new_by}
+use Rattle.values.specs.Values.{answer_of, values_from, storage_values}
+use Rattle.values.specs.Assignments.{input_count}
+use Rattle.values.proofs.WireValues.{wire_kept as kept_by, wire_new as new_by}
 use Rattle.bench_gates.specs.Gates.{cell}
 use Rattle.bench_meaning.specs.GateMeaning.{wire_value, Carries, CarryAll}
 

@@ -6,7 +6,7 @@ use Rattle.circuit.specs.declared.records.BoolNode.{BoolNode}
 use Rattle.circuit.specs.Records.{wire_of, is_cell_node}
 use Rattle.text.specs.declared.words.Word.{Word}
 use Rattle.reading.specs.Reading.{Held}
-use Rattle.runs.specs.Values.{signal_value, storage_values}
+use Rattle.values.specs.Values.{signal_value, storage_values}
 use Rattle.bench_gates.specs.declared.operations.Operation.{Operation}
 use Rattle.bench_meaning.specs.Operations.{operation_bit}
 

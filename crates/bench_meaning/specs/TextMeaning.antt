@@ -10,7 +10,7 @@ use Rattle.circuit.specs.Refusals.{Try}
 use Rattle.text.specs.Blanks.{trimmed}
 use Rattle.text.specs.Words.{bytes_of, between}
 use Rattle.text.specs.declared.words.Word.{Word}
-use Rattle.runs.specs.Values.{signal_value, storage_values, storage_outputs, evaluated}
+use Rattle.values.specs.Values.{signal_value, storage_values, storage_outputs, evaluated}
 use Rattle.bench_invocations.specs.Invocations.{Invoked, parse_invocation}
 use Rattle.bench_gates.specs.declared.operations.Operation.{Operation}
 use Rattle.bench_gates.specs.Operations.{operation_of}

@@ -14,29 +14,31 @@ use Rattle.laws.specs.Stretches.{All}
 use Rattle.laws.proofs.Rows.{one_bit}
 use Rattle.std.proofs.lemmas.List.{length-map}
 use Rattle.circuit.specs.declared.records.BoolNode.{BoolNode}
-use Rattle.circuit.specs.Records.{is_cell_node, wires_of}
+use Rattle.circuit.specs.declared.records.TheConstants.{WIRES}
+use Rattle.circuit.specs.Records.{is_cell_node, wire_of, cell_node, input_node}
 use Rattle.circuit.proofs.Tries.{yes_same, then_yes}
 use Rattle.cells.specs.Cells.{entry, index_from}
 use Rattle.text.specs.Words.{bytes_of}
 use Rattle.text.specs.declared.words.Word.{Word}
 use Rattle.names.specs.Names.{Entry, lookup}
-use Rattle.reading.specs.Reading.{Places, Held, find, driver, add_alias, add_named, input_node, add_input, each}
+use Rattle.reading.specs.Reading.{Places, Held, find, driver, add_alias, add_named, stretch_name, declared_input, add_input, each}
 use Rattle.reading.proofs.States.{undefined_yes}
 use Rattle.names.proofs.Lookups.{lookup_new, lookup-kept}
 use Rattle.reading.proofs.Ended.{wire_at}
 use Rattle.reading.proofs.Made.{entry as entry_for, alias_made, named_made, driver_found}
 use Rattle.reading.proofs.Sound.{Wired, wired_more, lookup_below}
-use Rattle.runs.proofs.NodeValues.{count_append}
-use Rattle.runs.specs.Values.{signal_value, entry_of}
-use Rattle.runs.specs.Runs.{input_count}
+use Rattle.values.proofs.NodeValues.{count_append}
+use Rattle.values.specs.Values.{signal_value, entry_of}
+use Rattle.values.specs.Assignments.{input_count}
 use Rattle.cover.specs.Cover.{last_of, cover}
 use Rattle.cover.proofs.TableLaws.{cover-fits}
-use Rattle.blif.specs.Blif.{drivers, input_names, cell_node, gate, names_line}
+use Rattle.blif.specs.Blif.{drivers, input_names, gate_cell, gate, names_line}
 use Rattle.blif.proofs.Accepted.{names-none, names-yes}
 use Rattle.documents.specs.BlifDocument.{gate_inputs, gate_output, IsCover, cover_value, Equation, Assigned}
 use Rattle.documents.proofs.BlifCover.{Bits, Inside, row_bytes, Covers, cover_means}
 use Rattle.documents.proofs.BlifValues.{values, wire_value, wire_bit, value, Known, Grows, value_at, value_kept, values_kept}
-use Rattle.runs.proofs.WireValues.{wire_kept, wire_new}
+use Rattle.values.proofs.WireValues.{wire_kept, wire_new}
+use Rattle.values.proofs.CellNodes.{entry_of_words}
 use Rattle.reading.proofs.Growing.{grows_none, grows_on, known_on, all_known_on}
 
 -- ---- what a record more leaves
@@ -105,20 +107,20 @@ module _ (t a : List ℕ) where
       (record { grows = grows_none (lookup t) (wire_value a) h; wired = wd; known = tt; assigned = tt; counted = sym (add-zero (input_count h.nodes)) })
   inputs_read p (w ∷ ws) h h' wd q =
       let s = then_yes (add_input false t p w h) (each (add_input false t p) ws) h' q in
-      let u = undefined_yes (find false t w h.names) (add_named p w (input_node w) h) s.0 (unfold add_input in s.1) in
-      let d = added_node p w (input_node w) h s.0 wd (sym (find-lookup t w h.names) ∙ u.0) u.1 in
+      let u = undefined_yes (find false t w h.names) (add_named p w (declared_input w) h) s.0 (unfold add_input in s.1) in
+      let d = added_node p w (declared_input w) h s.0 wd (sym (find-lookup t w h.names) ∙ u.0) u.1 in
       joined s.0 d.0 d.1 (inputs_read p ws s.0 h' d.0.wired s.2)
     where
-      joined : (mid : Held) → Added h mid (bytes_of t w) (at_end h (input_node w)) → mid.nodes ≡ h.nodes ++ (input_node w ∷ []) → InputsRead mid h' (map (bytes_of t) ws) → InputsRead h h' (map (bytes_of t) (w ∷ ws))
+      joined : (mid : Held) → Added h mid (bytes_of t w) (at_end h (declared_input w)) → mid.nodes ≡ h.nodes ++ (declared_input w ∷ []) → InputsRead mid h' (map (bytes_of t) ws) → InputsRead h h' (map (bytes_of t) (w ∷ ws))
       joined mid d e r =
-          let c : input_count mid.nodes ≡ input_count h.nodes + 1 = ap input_count e ∙ count_append h.nodes (input_node w ∷ []) ∙ unfold input_count is_cell_node in refl in
+          let c : input_count mid.nodes ≡ input_count h.nodes + 1 = ap input_count e ∙ count_append h.nodes (declared_input w ∷ []) ∙ unfold input_count is_cell_node input_node in refl in
           let f : input_count mid.nodes ≡ suc (input_count h.nodes) = omega (arith, c) in
           record {
             grows = grows_on (lookup t) (wire_value a) h mid h' d.grows r.grows;
             wired = r.wired;
             known = (known_on (lookup t) (wire_value a) mid h' r.grows (bytes_of t w) d.known, r.known);
             assigned = (
-              value_kept t a mid h' (bytes_of t w) d.wired r.grows d.known ∙ d.is ∙ unfold is_cell_node in refl,
+              value_kept t a mid h' (bytes_of t w) d.wired r.grows d.known ∙ d.is ∙ unfold is_cell_node input_node in refl,
               subst (λ (k : ℕ). Assigned (value t a h') a k (map (bytes_of t) ws)) f r.assigned,
             );
             counted = r.counted ∙ omega (arith, c);
@@ -152,13 +154,13 @@ module _ (t a : List ℕ) where
 
   -- ---- a gate's value is its table's entry
 
-  one_cell : (h : Held) (out : Word) (x table : ℕ) → at_end h (cell_node out (x ∷ []) table) ≡ entry table (index_from 0 (map (wire_value a h.nodes) (x ∷ [])))
-  unfolding entry_of wires_of is_cell_node
-  one_cell h out x table = refl
+  a_cell : (out : Word) (xs : List ℕ) (table : ℕ) → is_cell_node (gate_cell out xs table) ≡ true
+  unfolding is_cell_node cell_node
+  a_cell out xs table = refl
 
-  two_cell : (h : Held) (out : Word) (x y table : ℕ) → at_end h (cell_node out (x ∷ y ∷ []) table) ≡ entry table (index_from 0 (map (wire_value a h.nodes) (x ∷ y ∷ [])))
-  unfolding entry_of wires_of is_cell_node
-  two_cell h out x y table = refl
+  cell_entry : (h : Held) (out : Word) (xs : List ℕ) (table : ℕ) → length xs ≤ WIRES → at_end h (gate_cell out xs table) ≡ entry table (index_from 0 (map (wire_value a h.nodes) xs))
+  unfolding is_cell_node cell_node
+  cell_entry h out xs table few = entry_of_words (values a h.nodes) (stretch_name out) table xs (omega (arith, length-map xs wire_of))
 
   alias_entry : (v : ℕ) → v < 2 → v ≡ entry 2 (index_from 0 (v ∷ []))
   unfolding index_from
@@ -189,15 +191,15 @@ module _ (t a : List ℕ) where
       aliased h h' out _ _ (constant-entry h table (small refl)) (added_alias p out table h h' wd new (omega (arith, small refl)) q)
   gate_read ha p out (x ∷ []) table h h' wd new below few small q = go (eqb table 2) refl q
     where
-      go : (b : Bool) → eqb table 2 ≡ b → cond b (add_alias p out x h) (add_named p out (cell_node out (x ∷ []) table) h) ≡ Ok h'
+      go : (b : Bool) → eqb table 2 ≡ b → cond b (add_alias p out x h) (add_named p out (gate_cell out (x ∷ []) table) h) ≡ Ok h'
           → Gated h h' out (entry table (index_from 0 (map (wire_value a h.nodes) (x ∷ []))))
       go true e r =
           aliased h h' out _ _ (alias_entry (wire_value a h.nodes x) (wire_bit a ha h.nodes x) ∙ ap (λ (k : ℕ). entry k (index_from 0 (wire_value a h.nodes x ∷ []))) (sym (eqb-true table 2 e)))
           (added_alias p out x h h' wd new below.0 r)
       go false e r =
-          gated h h' out _ _ (cell_node out (x ∷ []) table) (unfold is_cell_node in refl) (one_cell h out x table) (added_node p out (cell_node out (x ∷ []) table) h h' wd new r)
+          gated h h' out _ _ (gate_cell out (x ∷ []) table) (a_cell out (x ∷ []) table) (cell_entry h out (x ∷ []) table (omega arith)) (added_node p out (gate_cell out (x ∷ []) table) h h' wd new r)
   gate_read ha p out (x ∷ y ∷ []) table h h' wd new below few small q =
-      gated h h' out _ _ (cell_node out (x ∷ y ∷ []) table) (unfold is_cell_node in refl) (two_cell h out x y table) (added_node p out (cell_node out (x ∷ y ∷ []) table) h h' wd new q)
+      gated h h' out _ _ (gate_cell out (x ∷ y ∷ []) table) (a_cell out (x ∷ y ∷ []) table) (cell_entry h out (x ∷ y ∷ []) table (omega arith)) (added_node p out (gate_cell out (x ∷ y ∷ []) table) h h' wd new q)
   gate_read ha p out (x ∷ y ∷ z ∷ zs) table h h' wd new below few small q = absurd (omega arith)
 
   -- ---- a `.names` line

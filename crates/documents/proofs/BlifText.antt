@@ -28,8 +28,8 @@ use Rattle.reading.specs.Reading.{Places, places_in, Held, State, start, find, a
 use Rattle.reading.proofs.Ended.{wire_at, resolved_wires, finish_yes}
 use Rattle.reading.proofs.States.{held_yes, outputs-yes}
 use Rattle.reading.proofs.Sound.{Wired, wires_out}
-use Rattle.runs.specs.Values.{signal_value, outputs_from, evaluated}
-use Rattle.runs.specs.Runs.{input_count}
+use Rattle.values.specs.Values.{signal_value, outputs_from, evaluated}
+use Rattle.values.specs.Assignments.{input_count}
 use Rattle.cover.specs.declared.directives.Directive.{Directive}
 use Rattle.cover.specs.declared.directives.Directive.TheVariants.{Ignored, Inputs, Outputs, Names, Other}
 use Rattle.cover.specs.Directives.{inputs, outputs, names, dotted, directive_of, rest_of, rows_of}

@@ -2,24 +2,23 @@
 -- Assumes nothing.
 use Rattle.std.specs.Prelude.{Some}
 use Prim.Native.Nat.{ℕ, zero, suc, ◌+◌, ◌<◌}
-use mathlib.Core.Path.{◌≡◌, refl, ap, ◌∙◌}
+use mathlib.Core.Path.{◌≡◌}
 use mathlib.Core.List.{List, [], ◌∷◌, ◌++◌, map}
 use native.Mathlib.Omega.{arith}
-use lib.ListN.{length, get_or, get_or-append}
+use lib.ListN.{length, get_or}
 use Rattle.laws.specs.Stretches.{All}
 use Rattle.laws.proofs.Stretches.{all_append}
-use Rattle.laws.proofs.Filling.{cond_both, snoc_last}
+use Rattle.laws.proofs.Filling.{cond_both}
 use Rattle.circuit.specs.declared.records.BoolNode.{BoolNode}
-use Rattle.circuit.specs.Records.{wire_of, is_cell_node}
+use Rattle.circuit.specs.Records.{is_cell_node}
 use Rattle.names.specs.Names.{lookup}
 use Rattle.reading.specs.Reading.{Held}
 use Rattle.reading.proofs.Ended.{wire_at}
 use Rattle.reading.proofs.Sound.{Wired, lookup_below}
 use Rattle.reading.proofs.Growing.{Known as KnownBy, Grows as GrowsBy, value_kept as kept_value, values_kept as kept_values}
-use Rattle.runs.specs.Values.{signal_value, values_from, entry_of}
-use Rattle.runs.specs.Runs.{input_count}
-use Rattle.runs.proofs.Evaluating.{entry_small}
-use Rattle.runs.proofs.WireValues.{wire_value as value_by}
+use Rattle.values.specs.Values.{signal_value, values_from, entry_of}
+use Rattle.values.proofs.Storage.{entry_small}
+use Rattle.values.proofs.WireValues.{wire_value as value_by}
 use Rattle.documents.proofs.BlifCover.{Bits}
 
 pub bits_at : (vs : List ℕ) → Bits vs → (i : ℕ) → get_or vs i 0 < 2

@@ -21,16 +21,18 @@ use Rattle.circuit.specs.declared.records.BoolWire.{BoolWire}
 use Rattle.circuit.specs.declared.records.BoolWire.TheVariants.{Node}
 use Rattle.circuit.specs.declared.records.BoolNode.{BoolNode}
 use Rattle.circuit.specs.Refusals.{and_then}
-use Rattle.circuit.specs.Records.{wire_word, no_wire, is_cell_node, wires_of}
+use Rattle.circuit.specs.declared.records.Name.TheVariants.{Number}
+use Rattle.circuit.specs.Records.{wire_word, no_wire, is_cell_node, cell_node}
 use Rattle.circuit.proofs.Tries.{no_yes, yes_same, need-yes}
 use Rattle.cells.specs.Cells.{entry, index_from}
 use Rattle.text.specs.Bytes.{upper}
 use Rattle.text.specs.Numbers.{parse_usize, parse_each, and_then as then}
-use Rattle.runs.specs.Values.{entry_of}
-use Rattle.runs.proofs.Evaluating.{entry_small}
+use Rattle.values.specs.Values.{entry_of}
+use Rattle.values.proofs.Storage.{entry_small}
+use Rattle.values.proofs.CellNodes.{entry_of_cell}
 use Rattle.bristol_rows.specs.Operation.{is_alias, inverts, two_input_table, truth_table, Op, same, table, operation}
 use Rattle.bristol_rows.specs.Slots.{wire_number, node_number}
-use Rattle.bristol_rows.specs.Row.{drivers, cell_node, Gate, alias, cell, gate, row}
+use Rattle.bristol_rows.specs.Row.{drivers, Gate, alias, cell, gate, row}
 use Rattle.bristol_rows.proofs.Accepted.{after, Accepts, accepted}
 use Rattle.bristol_rows.proofs.InputLaws.{front, drivers-nil}
 use Rattle.bristol.specs.Bristol.{State, drive, store_cell, store}
@@ -235,21 +237,19 @@ module _ (ins : List ℕ) (s : State) (bits : List ℕ) (f : Follows ins s bits)
         (follow_alias ins s bits f r.out d.d (get_or bits d.x 0) room s' r.below (f.known d.x) d.drives (subst (λ (z : List BoolWire). store room (alias (wire_number r.out) (get_or z 0 no_wire)) s ≡ Ok s') d.d_is (gate-of same m.op_is)))
 
     -- the value of a cell on its drivers' bits
-    one_entry : (t : ℕ) (d : One ins s bits r.ins r.ds) → entry_of (node_bits ins s.nodes) (cell_node (wire_number r.out) t r.ds) ≡ entry t (index_from 0 (get_or bits d.x 0 ∷ []))
-    unfolding entry_of wires_of is_cell_node
-    one_entry t d = rw (d.d_is, d.drives.value)
+    one_entry : (t : ℕ) (d : One ins s bits r.ins r.ds) → entry_of (node_bits ins s.nodes) (cell_node (Number (wire_number r.out)) t r.ds) ≡ entry t (index_from 0 (get_or bits d.x 0 ∷ []))
+    one_entry t d = rw d.d_is (entry_of_cell (node_bits ins s.nodes) (Number (wire_number r.out)) t (d.d ∷ []) (omega arith) ∙ rw d.drives.value)
 
     two_entry : (t : ℕ) (d : Two ins s bits r.ins r.ds)
-        → entry_of (node_bits ins s.nodes) (cell_node (wire_number r.out) t r.ds) ≡ entry t (index_from 0 (get_or bits d.x 0 ∷ get_or bits d.y 0 ∷ []))
-    unfolding entry_of wires_of is_cell_node
-    two_entry t d = rw (d.ds_are, d.drives.value, d.drives_too.value)
+        → entry_of (node_bits ins s.nodes) (cell_node (Number (wire_number r.out)) t r.ds) ≡ entry t (index_from 0 (get_or bits d.x 0 ∷ get_or bits d.y 0 ∷ []))
+    two_entry t d = rw d.ds_are (entry_of_cell (node_bits ins s.nodes) (Number (wire_number r.out)) t (d.d ∷ d.e ∷ []) (omega arith) ∙ rw (d.drives.value, d.drives_too.value))
 
-    is_a_cell : (t : ℕ) → is_cell_node (cell_node (wire_number r.out) t r.ds) ≡ true
-    unfolding is_cell_node
+    is_a_cell : (t : ℕ) → is_cell_node (cell_node (Number (wire_number r.out)) t r.ds) ≡ true
+    unfolding is_cell_node cell_node
     is_a_cell t = refl
 
-    cell_follows : (t v : ℕ) → table t ≡ r.op → entry_of (node_bits ins s.nodes) (cell_node (wire_number r.out) t r.ds) ≡ v → Follows ins s' (set bits r.out v)
-    cell_follows t v e q = follow_cell ins s bits f r.out (cell_node (wire_number r.out) t r.ds) v room s' r.below (is_a_cell t) q (gate-of (table t) e)
+    cell_follows : (t v : ℕ) → table t ≡ r.op → entry_of (node_bits ins s.nodes) (cell_node (Number (wire_number r.out)) t r.ds) ≡ v → Follows ins s' (set bits r.out v)
+    cell_follows t v e q = follow_cell ins s bits f r.out (cell_node (Number (wire_number r.out)) t r.ds) v room s' r.below (is_a_cell t) q (gate-of (table t) e)
 
     follows_inv : name_word ws ≡ 73 ∷ 78 ∷ 86 ∷ [] → Follows ins s' (gate_step bits ws)
     unfolding same_bytes

@@ -24,8 +24,8 @@ use Rattle.text.specs.Bytes.{is_ascii}
 use Rattle.text.specs.Words.{split_whitespace}
 use Rattle.text.specs.Lines.{kept_lines}
 use Rattle.text.specs.Numbers.{parse_each}
-use Rattle.runs.specs.Values.{signal_value, outputs_from as signals, storage_outputs, evaluated}
-use Rattle.runs.proofs.Storage.{Known, evaluate_same}
+use Rattle.values.specs.Values.{signal_value, outputs_from as signals, storage_outputs, evaluated}
+use Rattle.values.proofs.Storage.{Known, evaluate_same}
 use Rattle.bristol_rows.specs.declared.answers.Head.{Head}
 use Rattle.bristol_rows.specs.Numbers.{or_refuse, each_number}
 use Rattle.bristol_rows.specs.Header.{grouped_wire_count, groups, group_lines, two_numbers, header}

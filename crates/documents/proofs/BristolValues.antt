@@ -17,20 +17,20 @@ use Rattle.laws.proofs.Sums.{front_at, past_front}
 use Rattle.circuit.specs.declared.records.BoolWire.{BoolWire}
 use Rattle.circuit.specs.declared.records.BoolWire.TheVariants.{Const, Node}
 use Rattle.circuit.specs.declared.records.BoolNode.{BoolNode}
-use Rattle.circuit.specs.Records.{wire_of, wire_word, is_cell_node}
+use Rattle.circuit.specs.Records.{wire_of, wire_word, is_cell_node, input_node}
 use Rattle.circuit.specs.Check.{not_below}
 use Rattle.circuit.proofs.Codes.{wire_back}
 use Rattle.circuit.proofs.Checks.{below_more}
-use Rattle.runs.specs.Values.{signal_value, values_from, entry_of}
+use Rattle.values.specs.Values.{signal_value, values_from, entry_of}
 use Rattle.bristol_rows.specs.declared.answers.Head.{Head}
 use Rattle.bristol.specs.Bristol.{State, wire_input, input_slot, start}
-use Rattle.runs.proofs.NodeValues.{values_snoc, length-values}
+use Rattle.values.proofs.NodeValues.{values_snoc, length-values}
 
 -- ---- the values of nodes
 
 module _ (rule : List ℕ → BoolNode → ℕ) (a : List ℕ) where
   values-inputs : (m i p : ℕ) (vs : List ℕ) → values_from rule a p vs (up_from wire_input i m) ≡ vs ++ up_from (λ k. get_or a k 0) p m
-  unfolding values_from is_cell_node
+  unfolding values_from is_cell_node input_node
   values-inputs zero i p vs = sym (append-nil vs)
   values-inputs (suc m) i p vs =
       values-inputs m (suc i) (suc p) (vs ++ get_or a p 0 ∷ []) ∙ append_assoc vs (get_or a p 0 ∷ []) (up_from (λ k. get_or a k 0) (suc p) m)

@@ -7,7 +7,7 @@ use Rattle.laws.specs.Stretches.{same_bytes, All}
 use Rattle.circuit.specs.declared.records.BoolWire.{BoolWire}
 use Rattle.circuit.specs.declared.records.BoolNode.{BoolNode}
 use Rattle.text.specs.Words.{split_whitespace}
-use Rattle.runs.specs.Values.{signal_value, values_from, entry_of, evaluated}
+use Rattle.values.specs.Values.{signal_value, values_from, entry_of, evaluated}
 use Rattle.cover.specs.Directives.{inputs, outputs, names}
 
 -- ---- single-output covers

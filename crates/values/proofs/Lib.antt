@@ -8,3 +8,4 @@ pub mod Entries
 pub mod Valued
 pub mod Calls
 pub mod Evaluating
+pub mod CellNodes
