@@ -11,11 +11,11 @@ use lib.ListN.{length, get_or, length-append}
 use Rattle.laws.specs.Stretches.{All}
 use Rattle.circuit.specs.declared.refusals.Refusal.TheVariants.{Malformed}
 use Rattle.circuit.specs.declared.records.BoolNode.{BoolNode}
-use Rattle.circuit.specs.Records.{is_cell_node}
+use Rattle.circuit.specs.Records.{is_cell_node, input_node}
 use Rattle.circuit.proofs.Tries.{yes_same, then_yes, need-yes}
 use Rattle.text.specs.Words.{bytes_of}
 use Rattle.text.specs.declared.words.Word.{Word}
-use Rattle.reading.specs.Reading.{Places, Held, find, driver, add_named, input_node, add_input}
+use Rattle.reading.specs.Reading.{Places, Held, find, driver, add_named, declared_input, add_input}
 use Rattle.reading.proofs.States.{undefined_yes}
 use Rattle.reading.proofs.Sound.{find_below}
 use Rattle.values.specs.Assignments.{input_count}
@@ -49,15 +49,15 @@ module _ (t a : List ℕ) where
     pub counted : input_count h'.nodes ≡ suc (input_count h.nodes)
 
   pub input_read : (p : Places) (w : Word) (h h' : Held) → HeldWired h → add_input true t p w h ≡ Ok h' → InputRead h h' w
-  unfolding add_input is_cell_node input_count
+  unfolding add_input is_cell_node input_node input_count
   input_read p w h h' wd q =
-      let u = undefined_yes (find true t w h.names) (add_named p w (input_node w) h) h' q in
-      let l : length (h.nodes ++ input_node w ∷ []) ≡ length h.nodes + 1 = length-append h.nodes (input_node w ∷ []) in
-      let c : input_count (h.nodes ++ input_node w ∷ []) ≡ input_count h.nodes + 1 = count_append h.nodes (input_node w ∷ []) in
-      subst (λ (x : Held). InputRead h x w) (named_made p w (input_node w) h h' u.1)
+      let u = undefined_yes (find true t w h.names) (add_named p w (declared_input w) h) h' q in
+      let l : length (h.nodes ++ declared_input w ∷ []) ≡ length h.nodes + 1 = length-append h.nodes (declared_input w ∷ []) in
+      let c : input_count (h.nodes ++ declared_input w ∷ []) ≡ input_count h.nodes + 1 = count_append h.nodes (declared_input w ∷ []) in
+      subst (λ (x : Held). InputRead h x w) (named_made p w (declared_input w) h h' u.1)
       (record {
-        read = added t a h _ w (length h.nodes + 2) _ wd u.0 refl (λ y b. wire_kept a h.nodes (input_node w ∷ []) y b) (omega (arith, l))
-            (record { there = omega (arith, l); value = wire_new a h.nodes (input_node w) });
+        read = added t a h _ w (length h.nodes + 2) _ wd u.0 refl (λ y b. wire_kept a h.nodes (declared_input w ∷ []) y b) (omega (arith, l))
+            (record { there = omega (arith, l); value = wire_new a h.nodes (declared_input w) });
         counted = omega (arith, c);
       })
 

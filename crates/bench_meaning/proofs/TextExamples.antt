@@ -7,7 +7,7 @@ use mathlib.Core.List.{List, [], ◌∷◌, map}
 use Rattle.laws.specs.Areas.{capacity}
 use Rattle.laws.specs.Stretches.{stretch, run, same_bytes}
 use Rattle.circuit.specs.Refusals.{Try}
-use Rattle.circuit.specs.Records.{is_cell_node, wires_of}
+use Rattle.circuit.specs.Records.{places as wire_places, input_node, cell_node, is_cell_node, wires_of}
 use Rattle.circuit.specs.Circuits.{Circuit}
 use Rattle.text.specs.Bytes.{is_ascii, upper}
 use Rattle.text.specs.Blanks.{is_blank, trim, trim_start, trim_end, trimmed}
@@ -54,5 +54,5 @@ outputs a = outputs_in a (bench text 64 45 20 5)
 
 values : map outputs ((0 ∷ 0 ∷ 0 ∷ []) ∷ (0 ∷ 0 ∷ 1 ∷ []) ∷ (0 ∷ 1 ∷ 0 ∷ []) ∷ (0 ∷ 1 ∷ 1 ∷ []) ∷ (1 ∷ 0 ∷ 0 ∷ []) ∷ (1 ∷ 0 ∷ 1 ∷ []) ∷ (1 ∷ 1 ∷ 0 ∷ []) ∷ (1 ∷ 1 ∷ 1 ∷ []) ∷ (2 ∷ 1 ∷ 1 ∷ []) ∷ (2 ∷ 0 ∷ 1 ∷ []) ∷ (2 ∷ 2 ∷ 0 ∷ []) ∷ [])
     ≡ (1 ∷ []) ∷ (1 ∷ []) ∷ (1 ∷ []) ∷ (1 ∷ []) ∷ (1 ∷ []) ∷ (1 ∷ []) ∷ (1 ∷ []) ∷ (0 ∷ []) ∷ (2 ∷ []) ∷ (1 ∷ []) ∷ (1 ∷ []) ∷ []
-unfolding outputs text read_text bytes_fault text_fault is_ascii capacity joined_text logical_lines joined_from gather part continued all_but_last kept_lines kept_of kept uncommented trim trim_start trim_end is_blank raw_lines ended bench_lines lines places each read_line line_step gate_line gate_of gate_invoked declaration_line declared_in declare declaration_of parse_invocation invocation arguments_of none_empty parts up_to_last trimmed run stretch operation_of binary_of upper input_wires lower_gate chained chain add_input add_output add_named add_node add_name find lookup same_bytes finish resolve closed storage_outputs storage_values outputs_from values_from answer_of wires_of is_cell_node
+unfolding wire_places input_node cell_node outputs text read_text bytes_fault text_fault is_ascii capacity joined_text logical_lines joined_from gather part continued all_but_last kept_lines kept_of kept uncommented trim trim_start trim_end is_blank raw_lines ended bench_lines lines places each read_line line_step gate_line gate_of gate_invoked declaration_line declared_in declare declaration_of parse_invocation invocation arguments_of none_empty parts up_to_last trimmed run stretch operation_of binary_of upper input_wires lower_gate chained chain add_input add_output add_named add_node add_name find lookup same_bytes finish resolve closed storage_outputs storage_values outputs_from values_from answer_of wires_of is_cell_node
 values = refl

@@ -1,20 +1,23 @@
 -- The storage order's values as nodes are added at the end of a circuit: what stands keeps its value, and a cell takes its answer.
 -- Assumes nothing.
-use Prim.Native.Nat.{ℕ, zero, suc, ◌+◌, ◌<◌}
-use mathlib.Core.Path.{◌≡◌, refl, ap, ap₂, ◌∙◌}
-use mathlib.Core.Bool.{cond}
-use mathlib.Core.List.{List, [], ◌∷◌, ◌++◌}
+use Prim.Native.Nat.{ℕ, ◌+◌, ◌<◌, ◌≤◌}
+use mathlib.Core.Path.{◌≡◌, refl, ◌∙◌}
+use mathlib.Core.Bool.{cond, true}
+use mathlib.Core.List.{map, List, [], ◌∷◌, ◌++◌}
 use native.Mathlib.Omega.{arith}
 use lib.ListN.{length, get_or, length-append}
-use Rattle.laws.proofs.Filling.{snoc_last}
 use Rattle.circuit.specs.declared.records.Name.{Name}
 use Rattle.circuit.specs.declared.records.BoolNode.{BoolNode}
-use Rattle.circuit.specs.Records.{is_cell_node, wires_of}
+use Rattle.circuit.specs.Records.{is_cell_node}
 use Rattle.cells.specs.Cells.{cell_rule}
-use Rattle.values.specs.Values.{answer_of, values_from, storage_values}
+use Rattle.values.specs.Values.{answer_of, storage_values}
 use Rattle.values.specs.Assignments.{input_count}
 use Rattle.values.proofs.WireValues.{wire_kept as kept_by, wire_new as new_by}
-use Rattle.bench_gates.specs.Gates.{cell}
+use Rattle.values.proofs.CellNodes.{answer_of_words}
+use Rattle.reading.specs.Reading.{word_cell}
+use Rattle.circuit.specs.declared.records.TheConstants.{WIRES}
+use Rattle.circuit.specs.Records.{cell_node, wire_of}
+use Rattle.std.proofs.lemmas.List.{length-map}
 use Rattle.bench_meaning.specs.GateMeaning.{wire_value, Carries, CarryAll}
 
 module _ (a : List ℕ) where
@@ -30,16 +33,15 @@ module _ (a : List ℕ) where
   unfolding wire_value storage_values
   wire_new ns n = new_by answer_of a ns n
 
-  -- ---- the answers of cells of one wire and of two
+  -- ---- the answer of a cell on the values of its wires
 
-  pub one_answer : (ns : List BoolNode) (name : Name) (table x y v : ℕ) → wire_value a ns x ≡ v → at_end ns (cell name 1 table x y) ≡ cell_rule table (v ∷ [])
-  unfolding answer_of wires_of is_cell_node wire_value
-  one_answer ns name table x y v e = ap (λ (b : ℕ). cell_rule table (b ∷ [])) e
+  pub a_cell : (name : Name) (table : ℕ) (xs : List ℕ) → is_cell_node (word_cell name table xs) ≡ true
+  unfolding is_cell_node cell_node
+  a_cell name table xs = refl
 
-  pub two_answer : (ns : List BoolNode) (name : Name) (table x y v u : ℕ) → wire_value a ns x ≡ v → wire_value a ns y ≡ u
-      → at_end ns (cell name 2 table x y) ≡ cell_rule table (v ∷ u ∷ [])
-  unfolding answer_of wires_of is_cell_node wire_value
-  two_answer ns name table x y v u e f = ap₂ (λ (b c : ℕ). cell_rule table (b ∷ c ∷ [])) e f
+  pub cell_answer : (ns : List BoolNode) (name : Name) (table : ℕ) (xs : List ℕ) → length xs ≤ WIRES → at_end ns (word_cell name table xs) ≡ cell_rule table (map (wire_value a ns) xs)
+  unfolding is_cell_node cell_node wire_value
+  cell_answer ns name table xs few = answer_of_words (storage_values ns a) name table xs (omega (arith, length-map xs wire_of))
 
   -- ---- wires that have their values still
 

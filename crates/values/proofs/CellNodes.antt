@@ -22,3 +22,6 @@ module _ (values : List ℕ) (name : Name) (table : ℕ) where
   -- by the words of its wires
   pub entry_of_words : (xs : List ℕ) → length (map wire_of xs) ≤ WIRES → entry_of values (cell_node name table (map wire_of xs)) ≡ entry table (index_from 0 (map (λ x. signal_value values (wire_of x)) xs))
   entry_of_words xs h = entry_of_cell (map wire_of xs) h ∙ ap (λ (l : List ℕ). entry table (index_from 0 l)) (map-map (signal_value values) wire_of xs)
+
+  pub answer_of_words : (xs : List ℕ) → length (map wire_of xs) ≤ WIRES → answer_of values (cell_node name table (map wire_of xs)) ≡ cell_rule table (map (λ x. signal_value values (wire_of x)) xs)
+  answer_of_words xs h = answer_of_cell (map wire_of xs) h ∙ ap (cell_rule table) (map-map (signal_value values) wire_of xs)
