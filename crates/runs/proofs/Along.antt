@@ -24,9 +24,10 @@ use Rattle.graphs.proofs.Graph.{cell_below, waits-cell, ready-waits, ready-free,
 use Rattle.circuit.proofs.Checks.{Sounds}
 use Rattle.circuit.proofs.Circuits.{cell-at, reads_at, length_graph, read_below}
 use Rattle.cells.specs.Cells.{cell_rule}
-use Rattle.runs.specs.Values.{signal_value, answer_of, outputs_from, storage_values, storage_outputs}
+use Rattle.values.specs.Values.{signal_value, answer_of, outputs_from, storage_values, storage_outputs}
 use Rattle.runs.specs.Runs.{put_in, step, steps, run_store, run_outputs}
-use Rattle.runs.proofs.Storage.{wires_below, value_cell, length_put, value_input}
+use Rattle.values.proofs.Storage.{wires_below, value_cell}
+use Rattle.runs.proofs.InputValues.{length_put, value_input}
 
 -- two stores that agree on the nodes among the wires_of
 wires_read : (s t : List ℕ) (ws : List BoolWire) → ((y : ℕ) → elem y (nodes_read ws) ≡ true → get_or s y 0 ≡ get_or t y 0) → map (signal_value s) ws ≡ map (signal_value t) ws

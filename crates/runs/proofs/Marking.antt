@@ -6,8 +6,8 @@ use mathlib.Core.Path.{◌≡◌, refl, sym, ap, ap₂, ◌∙◌}
 use mathlib.Core.Logic.{◌≢◌}
 use mathlib.Core.List.{List, [], ◌∷◌, ◌++◌}
 use mathlib.Core.Bool.{Bool, true, false, cond, not, ◌&&◌, ◌||◌, false≢true}
-use Prim.Native.Nat.{ℕ, ◌+◌, ◌-◌, ◌*◌, ◌/◌, ◌%◌, ◌^◌, ◌<◌, ◌≤◌}
-use native.Mathlib.Nat.{add-zero, zero-div}
+use Prim.Native.Nat.{ℕ, ◌+◌, ◌-◌, ◌/◌, ◌%◌, ◌^◌, ◌<◌, ◌≤◌}
+use native.Mathlib.Nat.{zero-div}
 use native.Mathlib.Omega.{arith}
 use lib.Dec.{eqb, leb, ltb}
 use borrow.Author.Tests.{lt-leb, le-leb, le-ltb, lt-ltb, eq-eqb, ne_eqb, leb-true, ltb-true, ltb-false, leb-false, eqb-true, eqb-false}
@@ -69,8 +69,8 @@ module _ (nodes : List ℕ) (lo : ℕ) (marks : List ℕ) (k : ℕ) where
 
   module _ (h : within lo (block_size marks) k ≡ true) where
     pub here_clear : mark_of marks (k - lo) ≡ 0 → is_cell_node (node_at nodes k) ≡ waits_here nodes lo marks k
-    unfolding waits_here is_cell_node
-    here_clear e = rw (h, eq-eqb (mark_of marks (k - lo)) 0 e) (ap (λ (j : ℕ). eqb (get_or nodes j 0) 2) (add-zero (k * 9)))
+    unfolding waits_here
+    here_clear e = rw (h, eq-eqb (mark_of marks (k - lo)) 0 e)
 
     pub here_marked : (mark_of marks (k - lo) ≡ 0 → ⊥) → false ≡ waits_here nodes lo marks k
     unfolding waits_here
@@ -157,10 +157,8 @@ module _ (lo : ℕ) (marks : List ℕ) (x : ℕ) (taken : List ℕ) (m : Marks l
 -- ---- an entry
 
 module _ (nodes : List ℕ) (count lo : ℕ) (marks taken : List ℕ) (m : Marks lo marks taken) where
-  pub cell-word : (k : ℕ) → k < count → is_cell (graph_of (nodes_of nodes count)) k ≡ eqb (get_or nodes (k * 9) 0) 2
-  unfolding is_cell_node
-  cell-word k h =
-      cell-at (nodes_of nodes count) k ∙ ap is_cell_node (node_of nodes count k h) ∙ ap (λ (j : ℕ). eqb (get_or nodes j 0) 2) (add-zero (k * 9))
+  cell_there : (k : ℕ) → k < count → is_cell (graph_of (nodes_of nodes count)) k ≡ is_cell_node (node_at nodes k)
+  cell_there k h = cell-at (nodes_of nodes count) k ∙ ap is_cell_node (node_of nodes count k h)
 
   not-one : (b : Bool) → eqb (cond b 1 0) 0 ≡ not b
   not-one true = refl
@@ -177,13 +175,13 @@ module _ (nodes : List ℕ) (count lo : ℕ) (marks taken : List ℕ) (m : Marks
   here_waits k h = go (within lo (block_size marks) k) refl
     where
       go : (b : Bool) → within lo (block_size marks) k ≡ b
-          → within lo (block_size marks) k && (eqb (mark_of marks (k - lo)) 0 && eqb (get_or nodes (k * 9) 0) 2)
+          → within lo (block_size marks) k && (eqb (mark_of marks (k - lo)) 0 && is_cell_node (node_at nodes k))
           ≡ within lo (block_size marks) k && (is_cell (graph_of (nodes_of nodes count)) k && not (elem k taken))
       go false e = rw e
       go true e =
           let g = in_block lo (block_size marks) k e in
           ap (λ (b : Bool). within lo (block_size marks) k && b)
-          (ap₂ ◌&&◌ (ap (λ (v : ℕ). eqb v 0) (there lo marks k taken m g.0 (omega (arith, g.0, g.1))) ∙ not-one (elem k taken)) (sym (cell-word k h))
+          (ap₂ ◌&&◌ (ap (λ (v : ℕ). eqb v 0) (there lo marks k taken m g.0 (omega (arith, g.0, g.1))) ∙ not-one (elem k taken)) (sym (cell_there k h))
           ∙ swapped (not (elem k taken)) (is_cell (graph_of (nodes_of nodes count)) k))
 
   not_or : (a b : Bool) → not (a || b) ≡ not a && not b
@@ -204,16 +202,16 @@ module _ (nodes : List ℕ) (count lo : ℕ) (marks taken : List ℕ) (m : Marks
   no_cell x h = sym (ap (λ (b : Bool). b && (free_in (within lo (block_size marks)) (graph_of (nodes_of nodes count)) taken (reads_of (graph_of (nodes_of nodes count)) x) && not (within lo (block_size marks) x && elem x taken))) h)
 
   -- what an entry's parts make
-  pub entry_ready : (x : ℕ) (w : Bool) → x < count → get_or nodes (x * 9) 0 ≡ 2 → some_not_below count (wires_of (node_at nodes x)) ≡ false → w ≡ some_waits nodes lo marks (wires_of (node_at nodes x))
+  pub entry_ready : (x : ℕ) (w : Bool) → x < count → is_cell_node (node_at nodes x) ≡ true → some_not_below count (wires_of (node_at nodes x)) ≡ false → w ≡ some_waits nodes lo marks (wires_of (node_at nodes x))
       → ready_in (within lo (block_size marks)) (graph_of (nodes_of nodes count)) taken x ≡ not w && not (within lo (block_size marks) x && elem x taken)
   unfolding ready_in
   entry_ready x w h k b e =
-      ap₂ (λ (a f : Bool). a && (f && not (within lo (block_size marks) x && elem x taken))) (cell-word x h ∙ eq-eqb (get_or nodes (x * 9) 0) 2 k)
+      ap₂ (λ (a f : Bool). a && (f && not (within lo (block_size marks) x && elem x taken))) (cell_there x h ∙ k)
       (ap (free_in (within lo (block_size marks)) (graph_of (nodes_of nodes count)) taken) (reads_at (nodes_of nodes count) x ∙ ap (λ (n : BoolNode). nodes_read (wires_of n)) (node_of nodes count x h))
       ∙ free_wires (wires_of (node_at nodes x)) b ∙ ap not (sym e))
 
-  pub entry_other : (x : ℕ) → x < count → (get_or nodes (x * 9) 0 ≡ 2 → ⊥) → false ≡ ready_in (within lo (block_size marks)) (graph_of (nodes_of nodes count)) taken x
-  entry_other x h e = no_cell x (cell-word x h ∙ ne_eqb (get_or nodes (x * 9) 0) 2 e)
+  pub entry_other : (x : ℕ) → x < count → is_cell_node (node_at nodes x) ≡ false → false ≡ ready_in (within lo (block_size marks)) (graph_of (nodes_of nodes count)) taken x
+  entry_other x h e = no_cell x (cell_there x h ∙ e)
 
   pub entry_past : (x : ℕ) → count ≤ x → false ≡ ready_in (within lo (block_size marks)) (graph_of (nodes_of nodes count)) taken x
   entry_past x h = no_cell x (false_from_ne_true (is_cell (graph_of (nodes_of nodes count)) x) (λ e. omega (arith, cell_below (graph_of (nodes_of nodes count)) x e, length_graph (nodes_of nodes count), length_nodes nodes count)))

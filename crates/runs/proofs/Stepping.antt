@@ -1,49 +1,54 @@
--- The laws of a cell's wires and of its table.
+-- The steps along a list, an entry at a time.
 -- Assumes nothing.
-use mathlib.Core.Path.{◌≡◌, refl, ap, ◌∙◌}
-use mathlib.Core.Logic.{◌⊎◌, inl, inr}
-use mathlib.Core.List.{List, [], ◌∷◌}
-use mathlib.Core.Bool.{Bool, true, false, true≢false}
-use Prim.Native.Nat.{ℕ, ◌^◌}
-use native.Mathlib.Omega.{arith}
-use lib.Dec.{eqb, leb}
-use borrow.Author.Tests.{eqb-true, eqb-false}
-use lib.ListN.{take}
-use Rattle.circuit.specs.declared.records.BoolWire.{BoolWire}
+use Rattle.std.proofs.Common.{ℕ, ◌+◌, ◌<◌, ◌≤◌, ◌≡◌, List, ◌∷◌, length, drop, get_or, set, sym, ap, ◌∙◌, subst, add-one}
+use lib.ListN.{drop_of_length-le}
+use Rattle.std.proofs.Math.Seq.{drop-cons}
+use Rattle.std.proofs.Math.ListN.{length-set}
 use Rattle.circuit.specs.declared.records.BoolNode.{BoolNode}
-use Rattle.circuit.specs.Records.{is_cell_node, slots, wires_of}
-use Rattle.circuit.specs.Check.{cell_broken, record_broken}
-use Rattle.circuit.proofs.Checks.{cell_wires, wrong_count}
+use Rattle.circuit.specs.Records.{node_at, nodes_of}
+use Rattle.circuit.proofs.Codes.{node_of}
+use Rattle.values.specs.Values.{answer_of}
+use Rattle.runs.specs.Runs.{step, steps}
+use Rattle.values.specs.Inner.{SoundCell}
+use Rattle.runs.specs.Inner.{SoundCells}
 
--- ---- a cell's wires
+pub stored : (a : List ℕ) (m x : ℕ) (values : List ℕ) (r : ℕ) → x < m → r ≡ answer_of values (node_at a x) → set values x r ≡ step (nodes_of a m) values x
+unfolding step
+stored a m x values r h e = ap (set values x) (e ∙ sym (ap (answer_of values) (node_of a m x h)))
 
-kind_cell : (n : BoolNode) → is_cell_node n ≡ true → n.kind ≡ 2
-unfolding is_cell_node
-kind_cell n c = eqb-true n.kind 2 c
+pub step_length : (ns : List BoolNode) (values : List ℕ) (x : ℕ) → length (step ns values x) ≡ length values
+unfolding step
+step_length ns values x = length-set values x _
 
-pub wires_one : (n : BoolNode) → is_cell_node n ≡ true → n.count ≡ 1 → wires_of n ≡ n.first ∷ []
-wires_one n c e = cell_wires n (kind_cell n c) ∙ ap (λ (k : ℕ). take k (slots n)) e
+-- i entries are worked out: what is left gives what the whole gives
+pub record Gone (a : List ℕ) (m : ℕ) (order old : List ℕ) (i : ℕ) (values : List ℕ) : Type 0 where
+  pub same : length values ≡ length old
+  pub whole : steps (nodes_of a m) values (drop i order) ≡ steps (nodes_of a m) old order
+  pub sound : SoundCells a m (length old) (drop i order)
 
--- a cell that breaks no rule and has not one wire has two
-pub count_two : (n : BoolNode) → is_cell_node n ≡ true → record_broken n ≡ false → (n.count ≡ 1 → ⊥) → n.count ≡ 2
-count_two n c b e = go (eqb n.count 2) refl
-  where
-    go : (t : Bool) → eqb n.count 2 ≡ t → n.count ≡ 2
-    go true q = eqb-true n.count 2 q
-    go false q = absurd (true≢false (wrong_count n (λ z. omega (arith, kind_cell n c)) (kind_cell n c) e (eqb-false n.count 2 q) ∙ b))
+module _ (a : List ℕ) (m : ℕ) (order old : List ℕ) (i : ℕ) (values : List ℕ) (g : Gone a m order old i values) where
+  module _ (h : i < length order) where
+    cut : drop i order ≡ get_or order i 0 ∷ drop (i + 1) order
+    cut = rw add-one (drop-cons order i 0 h)
 
-pub wires_two : (n : BoolNode) → is_cell_node n ≡ true → record_broken n ≡ false → (n.count ≡ 1 → ⊥) → wires_of n ≡ n.first ∷ n.second ∷ []
-wires_two n c b e = cell_wires n (kind_cell n c) ∙ ap (λ (k : ℕ). take k (slots n)) (count_two n c b e)
+    all : SoundCells a m (length old) (get_or order i 0 ∷ drop (i + 1) order)
+    all = subst (SoundCells a m (length old)) cut g.sound
 
--- the test of its table, where its count is known
-pub table_test : (n : BoolNode) → n.kind ≡ 2 → (k : ℕ) → n.count ≡ k → (k ≡ 1) ⊎ (k ≡ 2) → leb (2 ^ 2 ^ k) n.table ≡ record_broken n
-unfolding record_broken cell_broken
-table_test n kind k e (inl q) = rw (kind, e, q)
-table_test n kind k e (inr q) = rw (kind, e, q)
+    pub inside : get_or order i 0 < m
+    inside = all.0.0
 
-pub wires_first : (n : BoolNode) → is_cell_node n ≡ true → record_broken n ≡ false → (ws : List BoolWire) × (wires_of n ≡ n.first ∷ ws)
-wires_first n c b = go (eqb n.count 1) refl
-  where
-    go : (t : Bool) → eqb n.count 1 ≡ t → (ws : List BoolWire) × (wires_of n ≡ n.first ∷ ws)
-    go true q = ([], wires_one n c (eqb-true n.count 1 q))
-    go false q = (n.second ∷ [], wires_two n c b (eqb-false n.count 1 q))
+    pub entry_sound : SoundCell (length values) (node_at a (get_or order i 0))
+    entry_sound = subst (λ (k : ℕ). SoundCell k (node_at a (get_or order i 0))) (sym g.same) all.0.1
+
+    pub gone_next : (after : List ℕ) → after ≡ step (nodes_of a m) values (get_or order i 0) → Gone a m order old (i + 1) after
+    unfolding steps
+    gone_next after e =
+        record {
+          same = ap length e ∙ step_length (nodes_of a m) values (get_or order i 0) ∙ g.same;
+          whole = ap (λ (v : List ℕ). steps (nodes_of a m) v (drop (i + 1) order)) e ∙ sym (ap (steps (nodes_of a m) values) cut) ∙ g.whole;
+          sound = all.1;
+        }
+
+  pub gone_all : length order ≤ i → values ≡ steps (nodes_of a m) old order
+  unfolding steps
+  gone_all h = sym (ap (steps (nodes_of a m) values) (drop_of_length-le order h)) ∙ g.whole

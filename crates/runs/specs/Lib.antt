@@ -1,7 +1,4 @@
-pub mod Values
 pub mod Runs
-pub mod Fit
-pub mod Work
-pub mod Steps
-pub mod Storing
 pub mod Calls
+pub mod Fit
+pub mod Inner

@@ -1,27 +1,23 @@
-// The run along an order list.
-ghost use Rattle.std.specs.Prelude.{◌≡◌, true, false, [], ◌++◌, ◌+◌, ◌-◌, ◌/◌, ◌≤◌, ltb, length, replicate, is_some, IsSome};
-ghost use Rattle.laws.specs.Lists.{some};
-ghost use Rattle.circuit.specs.Records.{nodes_of};
-ghost use Rattle.circuit.specs.Check.{nodes_in, wires_in};
-ghost use Rattle.circuit.specs.Graph.{graph_of};
-ghost use Rattle.graphs.specs.Graph.{fit};
-ghost use Rattle.runs.specs.Runs.{run_outputs};
-ghost use Rattle.runs.specs.Work.{Tells, Passing};
-ghost use Rattle.runs.specs.Steps.{Standing};
-ghost use Rattle.runs.specs.Calls.{run_fault, run_call, call_result};
+// The run along an order list, from whatever the value store holds.
+ghost use Rattle.std.specs.Prelude.{◌≡◌, false, ◌≤◌, length, is_ok};
+ghost use Rattle.circuit.specs.Records.{nodes_of, output_wires};
+ghost use Rattle.circuit.specs.Check.{some_not_below, nodes_in, wires_in};
+ghost use Rattle.values.specs.Assignments.{input_count};
+ghost use Rattle.values.specs.Inner.{with_outputs};
+ghost use Rattle.values.specs.Calls.{call_result};
+ghost use Rattle.runs.specs.Runs.{run_store, run_outputs};
+ghost use Rattle.runs.specs.Inner.{SoundCells, with_run, cells_or_fault};
+ghost use Rattle.runs.specs.Calls.{run_fault, run_call};
 
-use crate::ahead::counts_guessed;
 use crate::fitness::{CheckedNodes, fit_list};
-use crate::inputs::{assigned_fault, marked_inputs};
-use crate::outputs::{give, prepared, refuse, room_fault};
-use crate::step::Walk;
-use crate::stretches::none_waits;
-use crate::ways::{Branched, Unbranched};
-use cells::answer_table;
+use crate::inputs::put_inputs;
+use crate::steps::run_steps;
 use circuit::nodes::{Nodes, Outputs};
 use circuit::refusals::Refusal;
+use values::assignments::assigned_fault;
+use values::outputs::{put_outputs, room_fault};
 
-// The first refusal of a run: 15, 16, 19, 20, 3.
+/// The first refusal of a run: `Broken`, `NotEarlier`, `WrongValues`, `UnfitOrder`, `NoRoom`. The store and the output area have so many places.
 pub fn run_fault(
     nodes: &[usize],
     outputs: &[usize],
@@ -42,57 +38,74 @@ pub fn run_fault(
     room_fault(nodes, outputs, store, answers)
 }
 
-// A list of so many entries beside so many inputs has as many entries as there are cells.
-pub fn lists_cells(count: usize, inputs: usize, entries: usize) -> bool
-    ensures { Tells result (entries + inputs ≡ count) }
+/// The inputs put in, then a step for each entry of the list.
+pub fn run_store(nodes: Nodes, order: &[usize], assignment: &[u8], values: &mut [u8])
+    requires stored { nodes.count ≤ length values.old }
+    requires one_each { length assignment.now ≡ input_count (nodes_of nodes.words.now nodes.count) }
+    requires sound { SoundCells nodes.words.now nodes.count (length values.old) order.now }
+    ensures { values.new ≡ run_store (nodes_of nodes.entry.words.now nodes.entry.count) assignment.now order.now values.old }
 {
-    inputs <= count && entries == count - inputs
+    put_inputs(nodes, assignment, values);
+    run_steps(nodes, order, values);
 }
 
-// The inputs, then a step for each entry, which checks its record: with as many entries and values as nodes, each node is an input or a cell that was checked.
-// None where a node fails, the inputs are not as many as the values, or the list is not fit.
-pub fn run_store(nodes: Nodes, order: &[usize], assignment: &[u8], values: &mut [u8]) -> Option<()>
-    requires { (nodes.count ≤ length values.old) × (some (ltb 2) assignment.now ≡ false) × (length order.now + length assignment.now ≡ nodes.count) }
-    ensures { Tells (is_some result) (Passing nodes.entry.words.now nodes.entry.count assignment.now × (fit (graph_of (nodes_of nodes.entry.words.now nodes.entry.count)) [] order.now ≡ true)) × (IsSome result → Standing (nodes_of nodes.entry.words.now nodes.entry.count) assignment.now order.now values.new) }
+/// The outputs of a run along the list, in front of `answers`.
+pub fn run_outputs(
+    nodes: Nodes,
+    outputs: Outputs,
+    order: &[usize],
+    assignment: &[u8],
+    values: &mut [u8],
+    answers: &mut [u8],
+)
+    requires stored { nodes.count ≤ length values.old }
+    requires one_each { length assignment.now ≡ input_count (nodes_of nodes.words.now nodes.count) }
+    requires sound { SoundCells nodes.words.now nodes.count (length values.old) order.now }
+    requires room { outputs.count ≤ length answers.old }
+    requires wired { some_not_below (length values.old) (output_wires outputs.words.now outputs.count) ≡ false }
+    ensures { answers.new ≡ with_run nodes.entry.words.now nodes.entry.count outputs.entry.words.now outputs.entry.count assignment.now order.now values.old answers.old }
 {
-    let answers = answer_table();
-    let walk = Walk {
-        answers: &answers,
-        nodes,
-        order,
-    };
-    marked_inputs(nodes, assignment, values)?;
-    if counts_guessed(nodes) {
-        walk.run_stretches::<Branched>(values)?;
-    } else {
-        walk.run_stretches::<Unbranched>(values)?;
-    }
-    none_waits(values, nodes.count).then_some(())
+    run_store(nodes, order, assignment, values);
+    put_outputs(outputs, values, answers);
 }
 
-// What an accepted run does; None where the call is to be refused.
-// Beside `evaluate_work` it is no plainer as one function: that would take the steps between as a closure with their promise.
-pub fn work(
+/// The outputs, in front of `answers`, and how many cells were worked out. `values` takes the values of the nodes. A refused call leaves `answers` as it was.
+pub fn work_out(
     nodes: &[usize],
     outputs: &[usize],
     order: &[usize],
     assignment: &[u8],
     values: &mut [u8],
     answers: &mut [u8],
-) -> Option<()>
-    ensures { Tells (is_some result) (run_fault nodes.now outputs.now order.now assignment.now (length values.old) (length answers.old) ≡ Ok tt) × (IsSome result → (answers.new ≡ run_outputs (nodes_in nodes.now) (wires_in outputs.now) assignment.now order.now values.old ++ replicate (length answers.old - length outputs.now / 5) 0) × (values.new ≡ replicate (length values.old) 0)) }
+) -> Result<usize, Refusal>
+    ensures checked { result ≡ cells_or_fault nodes.now outputs.now order.now assignment.now (length values.old) (length answers.old) }
+    ensures given { answers.new ≡ with_outputs (is_ok result) (run_outputs (nodes_in nodes.now) (wires_in outputs.now) assignment.now order.now values.old) answers.old }
 {
-    if !prepared(nodes, outputs, assignment, 2, values.len(), answers.len())
-        || !lists_cells(nodes.len() / 9, assignment.len(), order.len())
-    {
-        return None;
-    }
-    run_store(Nodes::of(nodes), order, assignment, values)?;
-    give(Outputs::of(outputs), values, answers);
-    Some(())
+    run_fault(
+        nodes,
+        outputs,
+        order,
+        assignment,
+        values.len(),
+        answers.len(),
+    )?;
+    run_outputs(
+        Nodes::of(nodes),
+        Outputs::of(outputs),
+        order,
+        assignment,
+        values,
+        answers,
+    );
+    Ok(order.len())
 }
 
-// The run along a list, which answers how many cells it worked out. A refusal is looked for once there is one.
+/// The outputs of a circuit along a list of its cells, for an assignment of 0, 1 and 2 (unknown) to its inputs, and how many cells were worked out.
+///
+/// The inputs are put into `values`, whatever it holds; then each cell of the list in turn is worked out from what stands there.
+/// Refused with the first of: `Broken`, `NotEarlier`, `WrongValues` (not one value for each input, or one above 2), `UnfitOrder` (the list has not each cell once,
+/// after those it reads), `NoRoom` (`values` has fewer places than there are nodes, or `answers` than outputs). `values` is zeros after any call; `answers` holds
+/// the outputs and zeros after them, or zeros alone after a refusal.
 pub fn run(
     nodes: &[usize],
     outputs: &[usize],
@@ -103,12 +116,8 @@ pub fn run(
 ) -> Result<usize, Refusal>
     ensures { call_result result values.new answers.new ≡ run_call nodes.now outputs.now order.now assignment.now values.old answers.old }
 {
-    let cells = order.len();
-    let store = values.len();
-    let room = answers.len();
-    if work(nodes, outputs, order, assignment, values, answers).is_none() {
-        refuse(values, answers);
-        run_fault(nodes, outputs, order, assignment, store, room)?;
-    }
-    Ok(cells)
+    answers.fill(0);
+    let result = work_out(nodes, outputs, order, assignment, values, answers);
+    values.fill(0);
+    result
 }

@@ -1,13 +1,11 @@
-use mathlib.Core.Path.{◌≡◌}
 use Prim.Native.Nat.{◌-◌}
-use lib.ListN.{length}
 use Rattle.circuit.specs.Records.{nodes_of}
 use Rattle.circuit.specs.Graph.{graph_of}
 use Rattle.runs.proofs.Blocks.{Covered}
 use Rattle.runs.proofs.fitness.fit_blocks.Given as goal
 
 abbrev pub invariant-loop-lo : goal.invariant-loop-lo
-invariant-loop-lo l = Covered (graph_of (nodes_of l.checked.nodes.words.now l.checked.nodes.count)) l.order l.lo × (length l.marks ≡ length l.initial.marks)
+invariant-loop-lo g l = Covered (graph_of (nodes_of l.checked.nodes.words.now l.checked.nodes.count)) l.order l.lo
 
 abbrev pub decreases-loop-lo : goal.decreases-loop-lo
-decreases-loop-lo l = l.checked.nodes.count - l.lo
+decreases-loop-lo g l = l.checked.nodes.count - l.lo
