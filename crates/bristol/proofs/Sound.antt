@@ -30,6 +30,7 @@ use Rattle.circuit.specs.Check.{not_below, some_not_below, check_circuit}
 use Rattle.circuit.specs.Circuits.{Circuit}
 use Rattle.circuit.proofs.Tries.{no_yes, yes_same, then_yes, need-yes}
 use Rattle.circuit.proofs.Sitting.{AllSit, Sits, sit_more, circuit_checked, word_below, input_sits, cell_sits}
+use Rattle.text.specs.declared.TheConstants.{MOST_TEXT}
 use Rattle.text.specs.Bytes.{is_ascii, is_named}
 use Rattle.text.specs.Words.{split_whitespace}
 use Rattle.text.specs.Lines.{kept_lines}
@@ -235,7 +236,7 @@ none_yet m = refl
 pub bristol-sound : (text : List ℕ) (nodes outputs wires : ℕ) (c : Circuit) → bristol_circuit text nodes outputs wires ≡ Ok c → check_circuit c.nodes (out_wires c.outputs) ≡ Ok tt
 unfolding bristol_circuit circuit body
 bristol-sound text nodes outputs wires c e =
-    let p = need-yes (leb (length text) 1048576) _ _ c e in
+    let p = need-yes (leb (length text) MOST_TEXT) _ _ c e in
     let q = need-yes (is_ascii text) _ _ c p.1 in
     let h = then_yes (header (kept_lines text)) _ c q.1 in
     let n = need-yes (leb h.0.wires (capacity 1 wires)) _ _ c h.2 in

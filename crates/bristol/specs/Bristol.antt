@@ -14,6 +14,7 @@ use Rattle.circuit.specs.declared.records.TheConstants.{NODE_WORDS, OUTPUT_WORDS
 use Rattle.circuit.specs.Refusals.{Try, and_then, need}
 use Rattle.circuit.specs.Records.{input_node}
 use Rattle.circuit.specs.Circuits.{Circuit, filled, read_answer, node_words, output_words}
+use Rattle.text.specs.declared.TheConstants.{MOST_TEXT}
 use Rattle.text.specs.Bytes.{is_ascii}
 use Rattle.text.specs.Words.{split_whitespace}
 use Rattle.text.specs.Lines.{kept_lines}
@@ -36,7 +37,7 @@ drive out w ns ws =
     need (eqb (slot_of ws out) UNDRIVEN) DrivenTwice
     (Ok (record { nodes = ns; wires = set ws out.0 (slot_of_driver w) }))
 
--- "then 3, 14"
+-- a cell takes the next place in the circuit before it drives its wire
 unfoldable pub store_cell : ℕ → WireNumber → BoolNode → List BoolNode → List ℕ → Try State
 store_cell room out n ns ws = need (ltb (length ns) room) NoRoom (drive out (Node (node_number (length ns))) (ns ++ (n ∷ [])) ws)
 
@@ -53,11 +54,11 @@ rows room (l ∷ ls) s = and_then (row_step room l s) (rows room ls)
 
 -- ---- the outputs
 
--- "an output's name is its wire number"
+-- an output is named by its wire
 abbrev pub output_of : WireNumber → ℕ → Output
 output_of w slot = record { name = Number w; wire = driver_of_slot slot }
 
--- "5 if undefined", then 3: the outputs of wires k, k + 1, .., by their slots
+-- the outputs of wires k, k + 1, .., by their slots: each has a driver, then a place
 unfoldable pub outputs_from : ℕ → ℕ → List ℕ → List Output → Try (List Output)
 outputs_from room k [] os = Ok os
 outputs_from room k (s ∷ ss) os =
@@ -81,23 +82,23 @@ start h = record {
   wires = up_from input_slot 0 h.inputs ++ replicate (h.wires - h.inputs) UNDRIVEN;
 }
 
--- "Row count 11. Outputs are the last wires"
+-- after the rows: as many as the header says; the outputs are the last wires
 unfoldable pub body : ℕ → ℕ → Head → List (List ℕ) → Try Circuit
 body nodeRoom outputRoom h ls =
     and_then (rows nodeRoom ls (start h)) (λ s. need (eqb (length ls) h.gates) HeaderMismatch
     (and_then (outputs_from outputRoom (h.wires - h.outputs) (drop (h.wires - h.outputs) s.wires) [])
     (λ os. Ok (record { nodes = s.nodes; outputs = os }))))
 
--- "Then 3 (wire area, node area)."
+-- once the header is known, the wires and the inputs have their places, or there is no room
 unfoldable pub circuit : ℕ → ℕ → ℕ → List (List ℕ) → Try Circuit
 circuit nodeRoom outputRoom wireRoom ls =
     and_then (header ls) (λ h. need (leb h.wires wireRoom) NoRoom (need (leb h.inputs nodeRoom) NoRoom
     (body nodeRoom outputRoom h (drop 3 ls))))
 
--- "Reading checks 1, 2, .. then the text's order below."
+-- the text's own faults come first
 unfoldable pub bristol_circuit : List ℕ → ℕ → ℕ → ℕ → Try Circuit
 bristol_circuit text nodes outputs wires =
-    need (leb (length text) 1048576) TextTooLong (need (is_ascii text) NotAscii
+    need (leb (length text) MOST_TEXT) TextTooLong (need (is_ascii text) NotAscii
     (circuit (capacity NODE_WORDS nodes) (capacity OUTPUT_WORDS outputs) (capacity 1 wires) (kept_lines text)))
 
 -- what the call answers and leaves
@@ -107,7 +108,7 @@ pub record Left : Type 0 where
   pub outputs : List ℕ
   pub wires : List ℕ
 
--- "A refusal returns its number, any other result 0, and zeros every area lent for writing. The .. wire .. areas .. are work areas, zero after any call."
+-- a refusal leaves zeros in every area; the wires are a work area, zero after any call
 abbrev pub leave : ℕ → ℕ → ℕ → Try Circuit → Left
 leave n o w c = record {
   answer = read_answer c;

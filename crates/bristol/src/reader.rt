@@ -17,6 +17,7 @@ use bristol_rows::slots::slot_of_node;
 use circuit::areas::{clear_all, put_node, records_in};
 use circuit::records::{BoolNode, NODE_WORDS, Name, NodeNumber, Sizes, WireNumber};
 use circuit::refusals::Refusal;
+use text::MOST_TEXT;
 use text::bytes::is_ascii;
 use text::iterators::kept_lines;
 use text::lines::KeptLines;
@@ -133,7 +134,7 @@ pub fn read_text(
     requires { Zeros nodes.old × Zeros outputs.old × Zeros wires.old }
     ensures { Leaves (bristol text.now (length nodes.old) (length outputs.old) (length wires.old)) result nodes.new outputs.new wires.new }
 {
-    if 1048576 < text.len() {
+    if MOST_TEXT < text.len() {
         return Err(Refusal::TextTooLong);
     }
     if !is_ascii(text) {

@@ -20,6 +20,7 @@ use Rattle.circuit.specs.declared.records.BoolWire.{BoolWire}
 use Rattle.circuit.specs.declared.records.Output.{Output}
 use Rattle.circuit.specs.Circuits.{Circuit}
 use Rattle.circuit.proofs.Tries.{no_yes, yes_same, then_yes, need-yes}
+use Rattle.text.specs.declared.TheConstants.{MOST_TEXT}
 use Rattle.text.specs.Bytes.{is_ascii}
 use Rattle.text.specs.Words.{split_whitespace}
 use Rattle.text.specs.Lines.{kept_lines}
@@ -175,7 +176,7 @@ pub record AsMeant (text : List ℕ) (c : Circuit) : Type 0 where
 pub bristol_means : (text : List ℕ) (nodes outputs wires : ℕ) (c : Circuit) → bristol_circuit text nodes outputs wires ≡ Ok c → read_alike text ≡ true → AsMeant text c
 unfolding bristol_circuit circuit
 bristol_means text nodes outputs wires c e alike =
-    let p = need-yes (leb (length text) 1048576) _ _ c e in
+    let p = need-yes (leb (length text) MOST_TEXT) _ _ c e in
     let q = need-yes (is_ascii text) _ _ c p.1 in
     let h = then_yes (header (kept_lines text)) _ c q.1 in
     let n = need-yes (leb h.0.wires (capacity 1 wires)) _ _ c h.2 in

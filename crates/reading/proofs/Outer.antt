@@ -22,6 +22,7 @@ use Rattle.circuit.specs.Records.{encode_node, nodes_of, encode_output, outputs_
 use Rattle.circuit.specs.Circuits.{Circuit, read_answer}
 use Rattle.circuit.proofs.Codes.{node_wide, output_wide, length_nodes}
 use Rattle.circuit.proofs.Checks.{no_fault, not_refused}
+use Rattle.text.specs.declared.TheConstants.{MOST_TEXT}
 use Rattle.text.specs.Bytes.{is_ascii}
 use Rattle.text.specs.Joining.{joined_text, Joins}
 use Rattle.names.specs.declared.records.TheConstants.{HALF}
@@ -40,7 +41,7 @@ sound-fits text j e = leb-false j (length text) (not_refused (leb j (length text
 pub joined_short : (text : List ℕ) (j size r : ℕ) (joined : List ℕ) → text_fault text j ≡ Ok tt → Joins text size r joined → r < HALF
 unfolding text_fault bytes_fault
 joined_short text j size r joined e k =
-    let l = ltb-false 1048576 (length text) (not_refused (ltb 1048576 (length text)) TextTooLong (no_fault (refuse_if (ltb 1048576 (length text)) TextTooLong) (refuse_if (not (is_ascii text)) NotAscii) (no_fault (bytes_fault text) (refuse_if (leb j (length text)) NoRoom) e).0).0) in
+    let l = ltb-false MOST_TEXT (length text) (not_refused (ltb MOST_TEXT (length text)) TextTooLong (no_fault (refuse_if (ltb MOST_TEXT (length text)) TextTooLong) (refuse_if (not (is_ascii text)) NotAscii) (no_fault (bytes_fault text) (refuse_if (leb j (length text)) NoRoom) e).0).0) in
     omega (arith, l, k.fits)
 
 pub joined_in : (text : List ℕ) (size r : ℕ) (joined : List ℕ) → length joined ≡ size → length text < size → Joins text size r joined → JoinedIn text r joined

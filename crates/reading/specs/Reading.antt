@@ -14,6 +14,7 @@ use Rattle.circuit.specs.declared.records.TheConstants.{NODE_WORDS, OUTPUT_WORDS
 use Rattle.circuit.specs.Refusals.{refuse_if, first_fault, Try, and_then, need}
 use Rattle.circuit.specs.Records.{wire_word, wire_of, input_node, cell_node}
 use Rattle.circuit.specs.Circuits.{Circuit}
+use Rattle.text.specs.declared.TheConstants.{MOST_TEXT}
 use Rattle.text.specs.Bytes.{is_ascii}
 use Rattle.text.specs.Words.{bytes_of}
 use Rattle.text.specs.declared.words.Word.{Word}
@@ -22,11 +23,11 @@ use Rattle.names.specs.Names.{Entry, lookup}
 
 -- ---- the text
 
--- "1: text over 1,048,576 bytes", "2: a byte of 128 or more, comments included"
+-- a text is too long, or a byte of it is not ASCII, in a comment too
 unfoldable pub bytes_fault : List ℕ → Checked
-bytes_fault text = first_fault (refuse_if (ltb 1048576 (length text)) TextTooLong) (refuse_if (not (is_ascii text)) NotAscii)
+bytes_fault text = first_fault (refuse_if (ltb MOST_TEXT (length text)) TextTooLong) (refuse_if (not (is_ascii text)) NotAscii)
 
--- "Reading checks 1, 2, then (BLIF, BENCH) 3 if the joined area is shorter than the text plus one byte"
+-- the text's own faults come before a joined area that is too short: the joined text may be one byte longer than the text
 unfoldable pub text_fault : List ℕ → ℕ → Checked
 text_fault text joined = first_fault (bytes_fault text) (refuse_if (leb joined (length text)) NoRoom)
 

@@ -5,14 +5,15 @@ ghost use Rattle.reading.specs.Areas.{Zeroed, PreparedIs, Concludes};
 
 use circuit::records::Sizes;
 use circuit::refusals::Refusal;
+use text::MOST_TEXT;
 use text::bytes::is_ascii;
 use text::joining::logical_lines;
 
-// 1, 2.
+/// The text's own faults: `TextTooLong`, then `NotAscii`.
 pub fn bytes_fault(text: &[u8]) -> Result<(), Refusal>
     ensures { result ≡ bytes_fault text.now }
 {
-    if 1048576 < text.len() {
+    if MOST_TEXT < text.len() {
         return Err(Refusal::TextTooLong);
     }
     if !is_ascii(text) {
@@ -21,7 +22,7 @@ pub fn bytes_fault(text: &[u8]) -> Result<(), Refusal>
     Ok(())
 }
 
-// 1, 2, 3 for a joined area of so many bytes.
+/// The text's own faults, then `NoRoom` if a joined area of so many bytes is too short.
 pub fn text_fault(text: &[u8], joined: usize) -> Result<(), Refusal>
     ensures { result ≡ text_fault text.now joined }
 {
@@ -32,7 +33,7 @@ pub fn text_fault(text: &[u8], joined: usize) -> Result<(), Refusal>
     Ok(())
 }
 
-// Zeros everywhere. The four lent areas go one by one, here as in `conclude` and in `format`: a struct of `&mut` owes a clause on each reference in each of these functions.
+/// A refusal, with zeros in every area.
 pub fn refuse(
     e: Refusal,
     joined: &mut [u8],
@@ -50,7 +51,7 @@ pub fn refuse(
     Err(e)
 }
 
-// 1, 2, 3; else how long the joined text in its area is, and the areas of nodes and outputs are zeros.
+/// The text's faults; else how long the joined text in its area is, with zeros in the areas of nodes and outputs.
 pub fn prepare(
     text: &[u8],
     joined: &mut [u8],
@@ -66,7 +67,7 @@ pub fn prepare(
     Ok(logical_lines(text, joined))
 }
 
-// What the reading of the joined text ends in: the circuit with the name area cleared, or zeros everywhere.
+/// What the reading of the joined text ends in: the circuit with the name area cleared, or the refusal with zeros in every area.
 pub fn conclude(
     ended: Result<Sizes, Refusal>,
     joined: &mut [u8],

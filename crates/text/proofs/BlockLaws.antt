@@ -11,6 +11,7 @@ use Rattle.laws.specs.Lists.{some}
 use Rattle.laws.specs.Stretches.{stretch, run, is_not}
 use Rattle.laws.proofs.Lists.{none_at}
 use Rattle.laws.proofs.Stretches.{length-stretch}
+use Rattle.text.specs.declared.bytes.TheConstants.{BLOCK}
 use Rattle.text.specs.Bytes.{is_byte}
 use Rattle.text.proofs.RunLaws.{run_full, pass_near}
 
@@ -20,10 +21,10 @@ some_any p [] = refl
 some_any p (x ∷ xs) = ap (λ (t : Bool). p x || t) (some_any p xs)
 
 -- a block without it is passed
-pub block_passed : (t : List ℕ) (x i end : ℕ) → i + 32 ≤ end → end ≤ length t → some (is_byte x) (stretch t i 32) ≡ false
-    → i + 32 + run (is_not x) (stretch t (i + 32) (end - (i + 32))) ≡ i + run (is_not x) (stretch t i (end - i))
+pub block_passed : (t : List ℕ) (x i end : ℕ) → i + BLOCK ≤ end → end ≤ length t → some (is_byte x) (stretch t i BLOCK) ≡ false
+    → i + BLOCK + run (is_not x) (stretch t (i + BLOCK) (end - (i + BLOCK))) ≡ i + run (is_not x) (stretch t i (end - i))
 block_passed t x i end h k e =
-    let s : length (stretch t i 32) ≡ 32 = length-stretch t i 32 (omega arith) in
-    let f : length (stretch t i 32) ≡ run (is_not x) (stretch t i 32) = run_full (is_not x) (stretch t i 32) (λ j l. ap not (none_at (is_byte x) (stretch t i 32) 0 j l e)) in
-    let w : i + 32 - i ≡ 32 = omega arith in
-    pass_near (is_not x) t i (i + 32) end (omega arith) h (i + 32) (rw w (omega (arith, s, f))) (omega arith)
+    let s : length (stretch t i BLOCK) ≡ BLOCK = length-stretch t i BLOCK (omega arith) in
+    let f : length (stretch t i BLOCK) ≡ run (is_not x) (stretch t i BLOCK) = run_full (is_not x) (stretch t i BLOCK) (λ j l. ap not (none_at (is_byte x) (stretch t i BLOCK) 0 j l e)) in
+    let w : i + BLOCK - i ≡ BLOCK = omega arith in
+    pass_near (is_not x) t i (i + BLOCK) end (omega arith) h (i + BLOCK) (rw w (omega (arith, s, f))) (omega arith)

@@ -14,21 +14,22 @@ use Rattle.std.specs.Char.{to_ascii_uppercase}
 use Rattle.std.specs.Cmp.Lexicographic.{pointwise}
 use Rattle.laws.specs.Stretches.{same_bytes}
 use Rattle.laws.proofs.Stretches.{other_length}
+use Rattle.text.specs.declared.bytes.TheConstants.{ASCII_END}
 use Rattle.text.specs.Bytes.{is_ascii, upper}
 
--- the greatest is below 128 where each is
-below_max : (h b : ℕ) → ltb (max h b) 128 ≡ ltb h 128 && ltb b 128
-below_max h b = go (ltb h 128) (ltb b 128) refl refl
+-- the greatest is ASCII where each is
+below_max : (h b : ℕ) → ltb (max h b) ASCII_END ≡ ltb h ASCII_END && ltb b ASCII_END
+below_max h b = go (ltb h ASCII_END) (ltb b ASCII_END) refl refl
   where
-    go : (p q : Bool) → ltb h 128 ≡ p → ltb b 128 ≡ q → ltb (max h b) 128 ≡ p && q
-    go true true e f = lt-ltb (max h b) 128 (omega (arith, ltb-true h 128 e, ltb-true b 128 f))
-    go true false e f = le-ltb (max h b) 128 (omega (arith, ltb-false b 128 f))
-    go false q e f = le-ltb (max h b) 128 (omega (arith, ltb-false h 128 e))
+    go : (p q : Bool) → ltb h ASCII_END ≡ p → ltb b ASCII_END ≡ q → ltb (max h b) ASCII_END ≡ p && q
+    go true true e f = lt-ltb (max h b) ASCII_END (omega (arith, ltb-true h ASCII_END e, ltb-true b ASCII_END f))
+    go true false e f = le-ltb (max h b) ASCII_END (omega (arith, ltb-false b ASCII_END f))
+    go false q e f = le-ltb (max h b) ASCII_END (omega (arith, ltb-false h ASCII_END e))
 
-pub ascii_fold : (h : ℕ) (l : List ℕ) → ltb (fold max h l) 128 ≡ ltb h 128 && is_ascii l
+pub ascii_fold : (h : ℕ) (l : List ℕ) → ltb (fold max h l) ASCII_END ≡ ltb h ASCII_END && is_ascii l
 unfolding is_ascii
-ascii_fold h [] = sym (and-true (ltb h 128))
-ascii_fold h (b ∷ bs) = ascii_fold (max h b) bs ∙ ap (λ (t : Bool). t && is_ascii bs) (below_max h b) ∙ and_assoc (ltb h 128) (ltb b 128) (is_ascii bs)
+ascii_fold h [] = sym (and-true (ltb h ASCII_END))
+ascii_fold h (b ∷ bs) = ascii_fold (max h b) bs ∙ ap (λ (t : Bool). t && is_ascii bs) (below_max h b) ∙ and_assoc (ltb h ASCII_END) (ltb b ASCII_END) (is_ascii bs)
 
 -- words compared, as `==` of slices does it, and as all pairs of a `zip`
 pub same_pointwise : (x y : List ℕ) → pointwise eqb x y ≡ same_bytes x y

@@ -20,24 +20,26 @@ use Rattle.laws.specs.Table.{every}
 use Rattle.laws.proofs.Digits.{bit_shift, bit-and, bit_below, bit-zero, lowest}
 use Rattle.laws.proofs.Stretches.{rest_step, rest_end, all_map, all_at, length-stretch, get_or-stretch}
 use Rattle.laws.proofs.Table.{at}
+use Rattle.text.specs.declared.bytes.TheConstants.{ASCII_END}
+use Rattle.text.specs.declared.eights.TheConstants.{EACH, HIGH_BITS, LOW_BITS}
 use Rattle.text.specs.Eights.{word_of, eight_at, outside, Between, BetweenOf}
 use Rattle.text.proofs.RunLaws.{run_at, run_full, run_take, run_past}
 
 -- a number of at most 255 in front of others: its bit 7, and the bits after it
-lane_front : (b w : ℕ) → b < 256 → is_set (b + 256 * w) 7 ≡ leb 128 b
+lane_front : (b w : ℕ) → b < 256 → is_set (b + 256 * w) 7 ≡ leb ASCII_END b
 unfolding is_set
-lane_front b w h = go (leb 128 b) refl
+lane_front b w h = go (leb ASCII_END b) refl
   where
-    go : (t : Bool) → leb 128 b ≡ t → eqb ((b + 256 * w) / 2 ^ 7 % 2) 1 ≡ t
-    go true e = let l = leb-true 128 b e in let q : (b + 256 * w) / 2 ^ 7 % 2 ≡ 1 = omega (arith, h, l) in rw q
-    go false e = let l = leb-false 128 b e in let q : (b + 256 * w) / 2 ^ 7 % 2 ≡ 0 = omega (arith, h, l) in rw q
+    go : (t : Bool) → leb ASCII_END b ≡ t → eqb ((b + 256 * w) / 2 ^ 7 % 2) 1 ≡ t
+    go true e = let l = leb-true ASCII_END b e in let q : (b + 256 * w) / 2 ^ 7 % 2 ≡ 1 = omega (arith, h, l) in rw q
+    go false e = let l = leb-false ASCII_END b e in let q : (b + 256 * w) / 2 ^ 7 % 2 ≡ 0 = omega (arith, h, l) in rw q
 
 lane_back : (b w j : ℕ) → b < 256 → is_set (b + 256 * w) (8 + j) ≡ is_set w j
 lane_back b w j h =
     let e : (b + 256 * w) / 2 ^ 8 ≡ w = omega arith in
     sym (bit_shift (b + 256 * w) 8 j) ∙ ap (λ (x : ℕ). is_set x j) e
 
-pub lane_bit : (bs : List ℕ) → All (λ b. b < 256) bs → (i : ℕ) → i < length bs → is_set (word_of bs) (8 * i + 7) ≡ leb 128 (get_or bs i 0)
+pub lane_bit : (bs : List ℕ) → All (λ b. b < 256) bs → (i : ℕ) → i < length bs → is_set (word_of bs) (8 * i + 7) ≡ leb ASCII_END (get_or bs i 0)
 unfolding word_of
 lane_bit [] h i l = absurd (not-suc-le-zero l)
 lane_bit (b ∷ bs) h zero l = lane_front b (word_of bs) h.0
@@ -56,7 +58,7 @@ unfolding word_of
 less_lanes c [] h = refl
 less_lanes c (b ∷ bs) h = omega (arith, h.0, less_lanes c bs h.1)
 
-all_eight : (c : ℕ) → word_of (replicate 8 c) ≡ c * 72340172838076673
+all_eight : (c : ℕ) → word_of (replicate 8 c) ≡ c * EACH
 unfolding word_of
 all_eight c = omega arith
 
@@ -75,7 +77,7 @@ module _ (t : List ℕ) (s : ℕ) (h : s + 8 ≤ length t) where
       let a' = subst (λ (x : ℕ). word_of (stretch t x 8) ≡ get_or t x 0 + 256 * word_of (stretch t (s + 1) 7)) f a in
       omega (arith, a', eight_step 1 (omega arith), eight_step 2 (omega arith), eight_step 3 (omega arith), eight_step 4 (omega arith), eight_step 5 (omega arith), eight_step 6 (omega arith), eight_step 7 (omega arith), z)
 
--- ---- the mask: bit 7 of each byte
+-- ---- the highest bits: bit 7 of each byte
 
 same_test : (a b : Bool) → T (cond a b (not b)) → a ≡ b
 same_test true true t = refl
@@ -83,26 +85,23 @@ same_test true false t = absurd t
 same_test false true t = absurd t
 same_test false false t = refl
 
-abbrev mask : ℕ
-mask = 9259542123273814144
-
 abbrev mask_test : ℕ → ℕ → Bool
-mask_test t x = cond (is_set mask t) (eqb (t % 8) 7) (not (eqb (t % 8) 7))
+mask_test t x = cond (is_set HIGH_BITS t) (eqb (t % 8) 7) (not (eqb (t % 8) 7))
 
 mask_tests : T (every mask_test 0 (replicate 64 0))
 unfolding is_set
 mask_tests = tt
 
-mask_bit : (t : ℕ) → t < 64 → is_set mask t ≡ eqb (t % 8) 7
-mask_bit t h = same_test (is_set mask t) (eqb (t % 8) 7) (at mask_test (replicate 64 0) mask_tests t h)
+mask_bit : (t : ℕ) → t < 64 → is_set HIGH_BITS t ≡ eqb (t % 8) 7
+mask_bit t h = same_test (is_set HIGH_BITS t) (eqb (t % 8) 7) (at mask_test (replicate 64 0) mask_tests t h)
 
-mask_lane : (i : ℕ) → i < 8 → is_set mask (8 * i + 7) ≡ true
+mask_lane : (i : ℕ) → i < 8 → is_set HIGH_BITS (8 * i + 7) ≡ true
 mask_lane i h = let e : (8 * i + 7) % 8 ≡ 7 = omega arith in mask_bit (8 * i + 7) (omega arith) ∙ eq-eqb _ _ e
 
-mask_only : (t : ℕ) → is_set mask t ≡ true → t % 8 ≡ 7
-mask_only t e = eqb-true (t % 8) 7 (sym (mask_bit t (bit_below mask 64 t (omega arith) e)) ∙ e)
+mask_only : (t : ℕ) → is_set HIGH_BITS t ≡ true → t % 8 ≡ 7
+mask_only t e = eqb-true (t % 8) 7 (sym (mask_bit t (bit_below HIGH_BITS 64 t (omega arith) e)) ∙ e)
 
--- ---- eight bytes below 128
+-- ---- eight bytes of ASCII
 
 all_lanes : (P : ℕ → Type 0) (bs : List ℕ) → ((i : ℕ) → i < length bs → P (get_or bs i 0)) → All P bs
 all_lanes P [] f = tt
@@ -120,35 +119,35 @@ and_right : (a b : Bool) → a && b ≡ false → b ≡ true → a ≡ false
 and_right true b h e = sym e ∙ h
 and_right false b h e = refl
 
-pub below_half : (bs : List ℕ) → length bs ≡ 8 → All (λ b. b < 256) bs → bit_and (word_of bs) mask ≡ 0 → All (λ b. b < 128) bs
-below_half bs n h e = all_lanes (λ b. b < 128) bs small
+pub below_half : (bs : List ℕ) → length bs ≡ 8 → All (λ b. b < 256) bs → bit_and (word_of bs) HIGH_BITS ≡ 0 → All (λ b. b < ASCII_END) bs
+below_half bs n h e = all_lanes (λ b. b < ASCII_END) bs small
   where
-    small : (i : ℕ) → i < length bs → get_or bs i 0 < 128
+    small : (i : ℕ) → i < length bs → get_or bs i 0 < ASCII_END
     small i l =
-        let z : is_set (word_of bs) (8 * i + 7) && is_set mask (8 * i + 7) ≡ false = sym (bit-and (word_of bs) mask (8 * i + 7)) ∙ ap (λ (x : ℕ). is_set x (8 * i + 7)) e ∙ bit-zero (8 * i + 7) in
+        let z : is_set (word_of bs) (8 * i + 7) && is_set HIGH_BITS (8 * i + 7) ≡ false = sym (bit-and (word_of bs) HIGH_BITS (8 * i + 7)) ∙ ap (λ (x : ℕ). is_set x (8 * i + 7)) e ∙ bit-zero (8 * i + 7) in
         let o : is_set (word_of bs) (8 * i + 7) ≡ false = and_right _ _ z (mask_lane i (omega (arith, n, l))) in
-        leb-false 128 (get_or bs i 0) (sym (lane_bit bs h i l) ∙ o)
+        leb-false ASCII_END (get_or bs i 0) (sym (lane_bit bs h i l) ∙ o)
 
--- such bytes have no bit of the mask
-pub half_masked : (bs : List ℕ) → length bs ≡ 8 → All (λ b. b < 128) bs → bit_and (word_of bs) mask ≢ 0 → ⊥
+-- such bytes have none of the highest bits
+pub half_masked : (bs : List ℕ) → length bs ≡ 8 → All (λ b. b < ASCII_END) bs → bit_and (word_of bs) HIGH_BITS ≢ 0 → ⊥
 half_masked bs n h z =
-    let x = bit_and (word_of bs) mask in
-    let s : x < 2 ^ 64 = omega (arith, and_le_r (word_of bs) mask) in
+    let x = bit_and (word_of bs) HIGH_BITS in
+    let s : x < 2 ^ 64 = omega (arith, and_le_r (word_of bs) HIGH_BITS) in
     let t = count_trailing_zeros 64 x in
     let f : is_set x t ≡ true = (lowest 64 x s z).at in
-    let g : is_set (word_of bs) t && is_set mask t ≡ true = sym (bit-and (word_of bs) mask t) ∙ f in
-    let m : t % 8 ≡ 7 = mask_only t (and_second (is_set (word_of bs) t) (is_set mask t) g) in
+    let g : is_set (word_of bs) t && is_set HIGH_BITS t ≡ true = sym (bit-and (word_of bs) HIGH_BITS t) ∙ f in
+    let m : t % 8 ≡ 7 = mask_only t (and_second (is_set (word_of bs) t) (is_set HIGH_BITS t) g) in
     let w : t < 64 = bit_below x 64 t s f in
     let e : 8 * (t / 8) + 7 ≡ t = omega (arith, m) in
     let l : t / 8 < length bs = omega (arith, w, n) in
-    let b : leb 128 (get_or bs (t / 8) 0) ≡ true = sym (lane_bit bs (all_map bs (λ b q. omega (arith, q)) h) (t / 8) l) ∙ ap (is_set (word_of bs)) e ∙ and_first (is_set (word_of bs) t) (is_set mask t) g in
-    let u : get_or bs (t / 8) 0 < 128 = all_at (λ b. b < 128) bs (t / 8) h l in
-    omega (arith, leb-true 128 (get_or bs (t / 8) 0) b, u)
+    let b : leb ASCII_END (get_or bs (t / 8) 0) ≡ true = sym (lane_bit bs (all_map bs (λ b q. omega (arith, q)) h) (t / 8) l) ∙ ap (is_set (word_of bs)) e ∙ and_first (is_set (word_of bs) t) (is_set HIGH_BITS t) g in
+    let u : get_or bs (t / 8) 0 < ASCII_END = all_at (λ b. b < ASCII_END) bs (t / 8) h l in
+    omega (arith, leb-true ASCII_END (get_or bs (t / 8) 0) b, u)
 
-pub half_word : (bs : List ℕ) → length bs ≡ 8 → All (λ b. b < 128) bs → word_of bs ≤ 9187201950435737471
+pub half_word : (bs : List ℕ) → length bs ≡ 8 → All (λ b. b < ASCII_END) bs → word_of bs ≤ LOW_BITS
 half_word bs n h =
     let l = less_lanes 127 bs (all_map bs (λ b k. omega (arith, k)) h) in
-    let r : word_of (replicate (length bs) 127) ≡ 9187201950435737471 = rw n (all_eight 127) in
+    let r : word_of (replicate (length bs) 127) ≡ LOW_BITS = rw n (all_eight 127) in
     omega (arith, l, r)
 
 map_at : (f : ℕ → ℕ) (bs : List ℕ) (i : ℕ) → i < length bs → get_or (map f bs) i 0 ≡ f (get_or bs i 0)
@@ -168,64 +167,64 @@ not_twice : (t : Bool) → t ≡ not (not t)
 not_twice true = refl
 not_twice false = refl
 
-raised : (low b : ℕ) → low < 128 → leb 128 (b + (128 - low)) ≡ leb low b
+raised : (low b : ℕ) → low < ASCII_END → leb ASCII_END (b + (ASCII_END - low)) ≡ leb low b
 raised low b h = go (leb low b) refl
   where
-    go : (t : Bool) → leb low b ≡ t → leb 128 (b + (128 - low)) ≡ t
-    go true e = le-leb 128 (b + (128 - low)) (omega (arith, h, leb-true low b e))
-    go false e = lt-leb 128 (b + (128 - low)) (omega (arith, h, leb-false low b e))
+    go : (t : Bool) → leb low b ≡ t → leb ASCII_END (b + (ASCII_END - low)) ≡ t
+    go true e = le-leb ASCII_END (b + (ASCII_END - low)) (omega (arith, h, leb-true low b e))
+    go false e = lt-leb ASCII_END (b + (ASCII_END - low)) (omega (arith, h, leb-false low b e))
 
-lowered : (high b : ℕ) → b < 128 → leb 128 (high + 128 - b) ≡ leb b high
+lowered : (high b : ℕ) → b < ASCII_END → leb ASCII_END (high + ASCII_END - b) ≡ leb b high
 lowered high b h = go (leb b high) refl
   where
-    go : (t : Bool) → leb b high ≡ t → leb 128 (high + 128 - b) ≡ t
-    go true e = le-leb 128 (high + 128 - b) (omega (arith, h, leb-true b high e))
-    go false e = lt-leb 128 (high + 128 - b) (omega (arith, h, leb-false b high e))
+    go : (t : Bool) → leb b high ≡ t → leb ASCII_END (high + ASCII_END - b) ≡ t
+    go true e = le-leb ASCII_END (high + ASCII_END - b) (omega (arith, h, leb-true b high e))
+    go false e = lt-leb ASCII_END (high + ASCII_END - b) (omega (arith, h, leb-false b high e))
 
-module _ (low high : ℕ) (l : low < 128) (k : high < 128) (bs : List ℕ) (n : length bs ≡ 8) (h : All (λ b. b < 128) bs) where
+module _ (low high : ℕ) (l : low < ASCII_END) (k : high < ASCII_END) (bs : List ℕ) (n : length bs ≡ 8) (h : All (λ b. b < ASCII_END) bs) where
   abbrev up : List ℕ
-  up = map (λ b. b + (128 - low)) bs
+  up = map (λ b. b + (ASCII_END - low)) bs
 
   abbrev down : List ℕ
-  down = map (λ b. high + 128 - b) bs
+  down = map (λ b. high + ASCII_END - b) bs
 
-  above_word : word_of bs + (128 - low) * 72340172838076673 ≡ word_of up
+  above_word : word_of bs + (ASCII_END - low) * EACH ≡ word_of up
   above_word =
-      let e : word_of (replicate (length bs) (128 - low)) ≡ (128 - low) * 72340172838076673 = rw n (all_eight (128 - low)) in
-      omega (arith, e, sum_lanes (128 - low) bs)
+      let e : word_of (replicate (length bs) (ASCII_END - low)) ≡ (ASCII_END - low) * EACH = rw n (all_eight (ASCII_END - low)) in
+      omega (arith, e, sum_lanes (ASCII_END - low) bs)
 
-  below_word : (high + 128) * 72340172838076673 - word_of bs ≡ word_of down
+  below_word : (high + ASCII_END) * EACH - word_of bs ≡ word_of down
   below_word =
-      let e : word_of (replicate (length bs) (high + 128)) ≡ (high + 128) * 72340172838076673 = rw n (all_eight (high + 128)) in
-      omega (arith, e, less_lanes (high + 128) bs (all_map bs (λ b q. omega (arith, q)) h))
+      let e : word_of (replicate (length bs) (high + ASCII_END)) ≡ (high + ASCII_END) * EACH = rw n (all_eight (high + ASCII_END)) in
+      omega (arith, e, less_lanes (high + ASCII_END) bs (all_map bs (λ b q. omega (arith, q)) h))
 
   up_lane : (i : ℕ) → i < 8 → is_set (word_of up) (8 * i + 7) ≡ leb low (get_or bs i 0)
   up_lane i q =
-      lane_bit up (map_all (λ b. b < 256) (λ b. b + (128 - low)) bs (all_map bs (λ b r. omega (arith, r)) h)) i (omega (arith, q, n, length_lanes (λ b. b + (128 - low)) bs))
-      ∙ ap (leb 128) (map_at (λ b. b + (128 - low)) bs i (omega (arith, q, n))) ∙ raised low (get_or bs i 0) l
+      lane_bit up (map_all (λ b. b < 256) (λ b. b + (ASCII_END - low)) bs (all_map bs (λ b r. omega (arith, r)) h)) i (omega (arith, q, n, length_lanes (λ b. b + (ASCII_END - low)) bs))
+      ∙ ap (leb ASCII_END) (map_at (λ b. b + (ASCII_END - low)) bs i (omega (arith, q, n))) ∙ raised low (get_or bs i 0) l
 
   down_lane : (i : ℕ) → i < 8 → is_set (word_of down) (8 * i + 7) ≡ leb (get_or bs i 0) high
   down_lane i q =
-      lane_bit down (map_all (λ b. b < 256) (λ b. high + 128 - b) bs (all_map bs (λ b r. omega (arith, r, k)) h)) i (omega (arith, q, n, length_lanes (λ b. high + 128 - b) bs))
-      ∙ ap (leb 128) (map_at (λ b. high + 128 - b) bs i (omega (arith, q, n))) ∙ lowered high (get_or bs i 0) (all_at (λ b. b < 128) bs i h (omega (arith, q, n)))
+      lane_bit down (map_all (λ b. b < 256) (λ b. high + ASCII_END - b) bs (all_map bs (λ b r. omega (arith, r, k)) h)) i (omega (arith, q, n, length_lanes (λ b. high + ASCII_END - b) bs))
+      ∙ ap (leb ASCII_END) (map_at (λ b. high + ASCII_END - b) bs i (omega (arith, q, n))) ∙ lowered high (get_or bs i 0) (all_at (λ b. b < ASCII_END) bs i h (omega (arith, q, n)))
 
-  lanes : Between low high bs (bit_and (bit_and (word_of up) (word_of down)) mask)
+  lanes : Between low high bs (bit_and (bit_and (word_of up) (word_of down)) HIGH_BITS)
   lanes = record {
     lane = λ i q.
         let j = 8 * i + 7 in
-        bit-and (bit_and (word_of up) (word_of down)) mask j
-        ∙ ap (λ (t : Bool). t && is_set mask j) (bit-and (word_of up) (word_of down) j)
+        bit-and (bit_and (word_of up) (word_of down)) HIGH_BITS j
+        ∙ ap (λ (t : Bool). t && is_set HIGH_BITS j) (bit-and (word_of up) (word_of down) j)
         ∙ ap (λ (t : Bool). (is_set (word_of up) j && is_set (word_of down) j) && t) (mask_lane i q) ∙ and-true (is_set (word_of up) j && is_set (word_of down) j)
         ∙ ap (λ (t : Bool). t && is_set (word_of down) j) (up_lane i q) ∙ ap (λ (t : Bool). leb low (get_or bs i 0) && t) (down_lane i q)
         ∙ not_twice (leb low (get_or bs i 0) && leb (get_or bs i 0) high);
-    only = λ t e. mask_only t (and_second (is_set (bit_and (word_of up) (word_of down)) t) (is_set mask t) (sym (bit-and (bit_and (word_of up) (word_of down)) mask t) ∙ e));
+    only = λ t e. mask_only t (and_second (is_set (bit_and (word_of up) (word_of down)) t) (is_set HIGH_BITS t) (sym (bit-and (bit_and (word_of up) (word_of down)) HIGH_BITS t) ∙ e));
   }
 
-pub between-bits : (low high word : ℕ) → low < 128 → high < 128 → BetweenOf low high word (bit_and (bit_and (word + (128 - low) * 72340172838076673) ((high + 128) * 72340172838076673 - word)) 9259542123273814144)
+pub between-bits : (low high word : ℕ) → low < ASCII_END → high < ASCII_END → BetweenOf low high word (bit_and (bit_and (word + (ASCII_END - low) * EACH) ((high + ASCII_END) * EACH - word)) HIGH_BITS)
 between-bits low high word l k bs n h e =
-    subst (λ (x : ℕ). Between low high bs (bit_and (bit_and (x + (128 - low) * 72340172838076673) ((high + 128) * 72340172838076673 - x)) mask)) (sym e)
-    (subst (λ (x : ℕ). Between low high bs (bit_and (bit_and x ((high + 128) * 72340172838076673 - word_of bs)) mask)) (sym (above_word low high l k bs n h))
-    (subst (λ (x : ℕ). Between low high bs (bit_and (bit_and (word_of (up low high l k bs n h)) x) mask)) (sym (below_word low high l k bs n h)) (lanes low high l k bs n h)))
+    subst (λ (x : ℕ). Between low high bs (bit_and (bit_and (x + (ASCII_END - low) * EACH) ((high + ASCII_END) * EACH - x)) HIGH_BITS)) (sym e)
+    (subst (λ (x : ℕ). Between low high bs (bit_and (bit_and x ((high + ASCII_END) * EACH - word_of bs)) HIGH_BITS)) (sym (above_word low high l k bs n h))
+    (subst (λ (x : ℕ). Between low high bs (bit_and (bit_and (word_of (up low high l k bs n h)) x) HIGH_BITS)) (sym (below_word low high l k bs n h)) (lanes low high l k bs n h)))
 
 -- ---- the first of them
 
@@ -253,20 +252,20 @@ module _ (low high : ℕ) (bs : List ℕ) (n : length bs ≡ 8) (bits : ℕ) (b 
       (not_yes _ (sym (ap (is_set bits) e ∙ f.at) ∙ b.lane (t / 8) (omega (arith, w))))
 
 -- of a text, from a place on
-module _ (t : List ℕ) (s : ℕ) (room : s + 8 ≤ length t) (small : (i : ℕ) → get_or t i 0 < 256) (word : ℕ) (w : word ≡ eight_at t s) (e : bit_and word 9259542123273814144 ≡ 0) where
+module _ (t : List ℕ) (s : ℕ) (room : s + 8 ≤ length t) (small : (i : ℕ) → get_or t i 0 < 256) (word : ℕ) (w : word ≡ eight_at t s) (e : bit_and word HIGH_BITS ≡ 0) where
   abbrev bytes : List ℕ
   bytes = stretch t s 8
 
   word-is : word ≡ word_of bytes
   word-is = w ∙ eight_word t s room
 
-  all_small : All (λ b. b < 128) bytes
+  all_small : All (λ b. b < ASCII_END) bytes
   all_small =
       below_half bytes (length-stretch t s 8 room)
       (all_lanes (λ b. b < 256) bytes (λ i l. subst (λ (x : ℕ). x < 256) (sym (get_or-stretch t s 8 i (omega (arith, l, length-stretch t s 8 room)))) (small (s + i))))
-      (ap (λ (x : ℕ). bit_and x 9259542123273814144) (sym word-is) ∙ e)
+      (ap (λ (x : ℕ). bit_and x HIGH_BITS) (sym word-is) ∙ e)
 
-  pub word_small : word ≤ 9187201950435737471
+  pub word_small : word ≤ LOW_BITS
   word_small = omega (arith, word-is, half_word bytes (length-stretch t s 8 room) all_small)
 
   module _ (low high bits : ℕ) (b : BetweenOf low high word bits) where

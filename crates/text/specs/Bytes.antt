@@ -3,11 +3,12 @@
 use Rattle.std.specs.Prelude.{ℕ, ◌+◌, ◌-◌, ◌<◌, ◌≡◌, Bool, true, not, cond, ◌&&◌, List, [], ◌∷◌, map, eqb, leb, ltb, Option, Some, None}
 use Rattle.laws.specs.Stretches.{stretch, run, is_not, same_bytes}
 use Rattle.text.specs.declared.words.Word.{Word}
+use Rattle.text.specs.declared.bytes.TheConstants.{ASCII_END}
 
--- "a byte of 128 or more, comments included": a text that has none
+-- each byte of a text is ASCII
 unfoldable pub is_ascii : List ℕ → Bool
 is_ascii [] = true
-is_ascii (b ∷ bs) = ltb b 128 && is_ascii bs
+is_ascii (b ∷ bs) = ltb b ASCII_END && is_ascii bs
 
 -- a test that code runs on bytes, by its answers: it passes just where p fails, and so ends a run of p
 abbrev pub EndsRun : (ℕ → Bool → Type 0) → (ℕ → Bool) → Type 0

@@ -3,6 +3,7 @@
 use Rattle.std.specs.Prelude.{ℕ, ◌+◌, ◌*◌, ◌%◌, ◌<◌, ◌≡◌, Bool, true, not, ◌&&◌, List, [], ◌∷◌, leb, length, get_or}
 use Rattle.laws.specs.Digits.{is_set}
 use Rattle.laws.specs.Stretches.{All}
+use Rattle.text.specs.declared.bytes.TheConstants.{ASCII_END}
 
 -- bytes as one number, the first lowest
 unfoldable pub word_of : List ℕ → ℕ
@@ -23,7 +24,7 @@ pub record Between (low high : ℕ) (bs : List ℕ) (bits : ℕ) : Type 0 where
   pub lane : (i : ℕ) → i < 8 → is_set bits (8 * i + 7) ≡ not (outside low high (get_or bs i 0))
   pub only : (t : ℕ) → is_set bits t ≡ true → t % 8 ≡ 7
 
--- the same of whatever eight bytes below 128 a number has
+-- the same of whatever eight bytes of ASCII a number has
 abbrev pub BetweenOf : ℕ → ℕ → ℕ → ℕ → Type 0
 BetweenOf low high word bits =
-    (bs : List ℕ) → length bs ≡ 8 → All (λ b. b < 128) bs → word ≡ word_of bs → Between low high bs bits
+    (bs : List ℕ) → length bs ≡ 8 → All (λ b. b < ASCII_END) bs → word ≡ word_of bs → Between low high bs bits

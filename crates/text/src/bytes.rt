@@ -2,17 +2,24 @@
 ghost use Rattle.std.specs.Prelude.{ℕ, Bool, ◌≡◌, ◌+◌, ◌-◌, ◌≤◌, length};
 ghost use Rattle.laws.specs.Lists.{some};
 ghost use Rattle.laws.specs.Stretches.{stretch, run, is_not};
+ghost use Rattle.text.specs.declared.bytes.TheConstants.{BLOCK};
 ghost use Rattle.text.specs.Bytes.{EndsRun, first_place, is_ascii, is_byte, is_named};
 
 use crate::eights::{Limits, find_between};
 use crate::words::Word;
 
-// Whether every byte is below 128: whether the greatest is, found with no way out in between, so that many bytes go at a time.
-// std's `is_ascii` of a slice was tried: by callgrind it takes 1.37 times the instructions on a long text.
+/// Where the bytes of ASCII end: they are those below it.
+pub const ASCII_END: usize = 128;
+
+/// The bytes that are looked at together where a byte is mostly far.
+pub const BLOCK: usize = 32;
+
+/// Whether every byte is ASCII: whether the greatest is, found with no way out in between, so that many bytes go at a time.
+/// std's `is_ascii` of a slice takes 1.37 times the instructions on a long text.
 pub fn is_ascii(text: &[u8]) -> bool
     ensures { result ≡ is_ascii text.now }
 {
-    text.iter().fold(0, |high: u8, &b| high.max(b)) < 128
+    usize::from(text.iter().fold(0, |high: u8, &b| high.max(b))) < ASCII_END
 }
 
 // How many bytes come before the first that passes a test; all of them if there is none.
@@ -34,27 +41,27 @@ pub fn scan_byte(bytes: &[u8], x: u8) -> usize
     find_where(bytes, |b| b == x)
 }
 
-// Whether one of 32 bytes is x.
+/// Whether one byte of the block at a place is x.
 pub fn block_has(text: &[u8], x: u8, at: usize) -> bool
-    requires { at + 32 ≤ length text.now }
-    ensures { result ≡ some (is_byte x) (stretch text.now at 32) }
+    requires { at + BLOCK ≤ length text.now }
+    ensures { result ≡ some (is_byte x) (stretch text.now at BLOCK) }
 {
-    text[at..at + 32].contains(&x)
+    text[at..at + BLOCK].contains(&x)
 }
 
-// A place up to which there is no x: past all blocks of 32 bytes in front that have none.
+/// A place up to which there is no x: past all blocks in front that have none.
 // This, `skip_to` and `skip_to_far` take places, and no stretch, since `find_between` reads eight bytes at a time, which may lie past `end`.
 pub fn skip_blocks(text: &[u8], x: u8, from: usize, end: usize) -> usize
     requires { (from ≤ end) × (end ≤ length text.now) }
     ensures { (result + run (is_not x) (stretch text.now result (end - result)) ≡ from + run (is_not x) (stretch text.now from (end - from))) × (result ≤ end) }
 {
     let mut i = from;
-    // A block is passed at a time: the place goes on by 32, and is the answer.
-    while 32 <= end - i {
+    // A block is passed at a time, and the place where it begins is the answer.
+    while BLOCK <= end - i {
         if block_has(text, x, i) {
             return i;
         }
-        i += 32;
+        i += BLOCK;
     }
     i
 }
@@ -75,7 +82,7 @@ pub fn skip_to(text: &[u8], x: u8, from: usize, end: usize) -> usize
     }
 }
 
-// The same where it is mostly far, as the end of a line is: 32 bytes at a time, then eight.
+/// The same where it is mostly far, as the end of a line is: a block at a time, then eight bytes.
 // What has none ends where the text does, so the end is an answer, and no `None`.
 pub fn skip_to_far(text: &[u8], x: u8, from: usize, end: usize) -> usize
     requires { (from ≤ end) × (end ≤ length text.now) }

@@ -1,16 +1,27 @@
 // A byte between two others looked for, eight bytes at a time.
 ghost use Rattle.std.specs.Prelude.{◌≡◌, not, ◌+◌, ◌-◌, ◌≤◌, ◌<◌, length, IfSome, IsSome};
 ghost use Rattle.laws.specs.Stretches.{stretch, run, All};
+ghost use Rattle.text.specs.declared.bytes.TheConstants.{ASCII_END};
+ghost use Rattle.text.specs.declared.eights.TheConstants.{LOW_BITS};
 ghost use Rattle.text.specs.Eights.{eight_at, outside, BetweenOf};
 
-use crate::bytes::find_where;
+use crate::bytes::{ASCII_END, find_where};
 
-// The bytes from `low` to `high`, both below 128.
+/// Eight bytes of 1: a byte times this is eight times that byte.
+pub const EACH: usize = 0x0101_0101_0101_0101;
+
+/// The highest bit of each of eight bytes, which is off in a byte of ASCII.
+pub const HIGH_BITS: usize = 0x8080_8080_8080_8080;
+
+/// The other bits of each of eight bytes: the greatest number of eight bytes of ASCII.
+pub const LOW_BITS: usize = 0x7F7F_7F7F_7F7F_7F7F;
+
+/// The bytes from `low` to `high`, both ASCII.
 #[derive(Clone, Copy)]
 pub struct Limits {
     pub low: usize,
     pub high: usize,
-    ghost ascii: { (low < 128) × (high < 128) },
+    ghost ascii: { (low < ASCII_END) × (high < ASCII_END) },
 }
 
 // Eight bytes as one number.
@@ -30,7 +41,7 @@ pub fn eight_bytes(text: &[u8], at: usize) -> usize
     ])
 }
 
-// Whether a byte lies from `low` to `high`, be they below 128 or not.
+/// Whether a byte lies from `low` to `high`, be they ASCII or not.
 pub fn is_between(b: usize, low: usize, high: usize) -> bool
     ensures { not result ≡ outside low high b }
 {
@@ -44,23 +55,23 @@ pub fn scan_between(bytes: &[u8], low: usize, high: usize) -> usize
     find_where(bytes, |b| is_between(usize::from(b), low, high))
 }
 
-// Eight bytes below 128: bit 7 of each says whether it lies between limits, by two sums that carry nothing from byte to byte.
+/// Eight bytes of ASCII: the highest bit of each says whether it lies between limits, by two sums that carry nothing from byte to byte.
 pub fn between_bits(word: usize, limits: Limits) -> usize
-    requires { word ≤ 9187201950435737471 }
+    requires { word ≤ LOW_BITS }
     ensures { BetweenOf limits.low limits.high word result }
 {
-    let above = word + (128 - limits.low) * 0x0101_0101_0101_0101;
-    let below = (limits.high + 128) * 0x0101_0101_0101_0101 - word;
-    above & below & 0x8080_8080_8080_8080
+    let above = word + (ASCII_END - limits.low) * EACH;
+    let below = (limits.high + ASCII_END) * EACH - word;
+    above & below & HIGH_BITS
 }
 
-// How many of eight bytes come before the first between limits: all at once, and only where all are below 128.
+/// How many of eight bytes come before the first between limits: all at once, and only where all are ASCII.
 pub fn before_between(text: &[u8], limits: Limits, at: usize) -> Option<usize>
     requires { at + 8 ≤ length text.now }
-    ensures { IfSome result (λ n. n ≡ run (outside limits.low limits.high) (stretch text.now at 8)) × (All (λ b. b < 128) (stretch text.now at 8) → IsSome result) }
+    ensures { IfSome result (λ n. n ≡ run (outside limits.low limits.high) (stretch text.now at 8)) × (All (λ b. b < ASCII_END) (stretch text.now at 8) → IsSome result) }
 {
     let word = eight_bytes(text, at);
-    if word & 0x8080_8080_8080_8080 != 0 {
+    if word & HIGH_BITS != 0 {
         return None;
     }
     let hits = between_bits(word, limits);
@@ -70,7 +81,7 @@ pub fn before_between(text: &[u8], limits: Limits, at: usize) -> Option<usize>
     Some(hits.trailing_zeros() as usize / 8)
 }
 
-// The first place of a byte between limits, eight bytes at a time while there are eight in the text, all below 128.
+/// The first place of a byte between limits, eight bytes at a time while there are eight in the text, all ASCII.
 // It takes places, and no stretch, since the eight may lie past `end`.
 // Nothing that walks the same eight bytes one by one may stand in the loop: the compiler would then load each by itself.
 pub fn find_between(text: &[u8], limits: Limits, from: usize, end: usize) -> usize

@@ -10,3 +10,6 @@ pub mod joining;
 pub mod lines;
 pub mod numbers;
 pub mod words;
+
+/// The longest text that is read, in bytes.
+pub const MOST_TEXT: usize = 1_048_576;

@@ -2,7 +2,10 @@
 ghost use Rattle.std.specs.Prelude.{◌≡◌};
 ghost use Rattle.text.specs.Numbers.{number_of, digits, parse_usize};
 
-// One digit or more.
+/// The base of the numbers.
+pub const BASE: usize = 10;
+
+/// A number of one digit or more; `None` where another byte stands, or the number has more than 64 bits.
 pub fn parse_digits(bytes: &[u8]) -> Option<usize>
     ensures { number_of result ≡ digits bytes.now }
 {
@@ -14,12 +17,12 @@ pub fn parse_digits(bytes: &[u8]) -> Option<usize>
         if !b.is_ascii_digit() {
             return None;
         }
-        v = v.checked_mul(10)?.checked_add(usize::from(b - b'0'))?;
+        v = v.checked_mul(BASE)?.checked_add(usize::from(b - b'0'))?;
     }
     Some(v)
 }
 
-// A `+`, if there is one, and digits.
+/// A `+`, if there is one, and digits.
 pub fn parse_usize(bytes: &[u8]) -> Option<usize>
     ensures { number_of result ≡ parse_usize bytes.now }
 {

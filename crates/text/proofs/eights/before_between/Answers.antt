@@ -6,11 +6,12 @@ use Rattle.std.proofs.Common.{rules}
 use lib.Bits.{bit_and}
 use Rattle.laws.specs.Stretches.{stretch}
 use Rattle.laws.proofs.Stretches.{length-stretch}
+use Rattle.text.specs.declared.eights.TheConstants.{HIGH_BITS}
 use Rattle.text.proofs.EightLaws.{eight_word, half_masked, word_small, none_here, first_here, zeros_below}
 use Rattle.text.proofs.eights.before_between.Goals as goal
 
 pub returns-then-word-ne0 : goal.returns-then-word-ne0
-returns-then-word-ne0 c = (tt, λ a. absurd (half_masked (stretch c.args.text.now c.args.at 8) (length-stretch c.args.text.now c.args.at 8 c.requires) a (subst (λ (x : ℕ). bit_and x 9259542123273814144 ≢ 0) (c.eight_bytes-word.ensures ∙ eight_word c.args.text.now c.args.at c.requires) c.if-word-ne0.true)))
+returns-then-word-ne0 c = (tt, λ a. absurd (half_masked (stretch c.args.text.now c.args.at 8) (length-stretch c.args.text.now c.args.at 8 c.requires) a (subst (λ (x : ℕ). bit_and x HIGH_BITS ≢ 0) (c.eight_bytes-word.ensures ∙ eight_word c.args.text.now c.args.at c.requires) c.if-word-ne0.true)))
 
 pub between_bits-hits-requires : goal.between_bits-hits-requires
 between_bits-hits-requires c = word_small c.args.text.now c.args.at c.requires (λ i. omega (arith, c.type_inv.text i)) c.eight_bytes-word.result c.eight_bytes-word.ensures c.if-word-ne0.false
