@@ -11,10 +11,12 @@ use lib.ListN.{length}
 use Rattle.laws.proofs.Areas.{length-encodes}
 use Rattle.circuit.specs.declared.records.Output.{Output}
 use Rattle.circuit.specs.Records.{encode_node, encode_output, nodes_of, output_wires}
-use Rattle.circuit.specs.Check.{nodes_in, wires_in, check_circuit, topological_fault}
+use Rattle.circuit.specs.Check.{nodes_in, wires_in, topological_fault}
 use Rattle.graphs.specs.Graph.{Vertex, cells_of, fit_list, InOrder, ListsAll}
 use Rattle.circuit.specs.Graph.{graph_of}
-use Rattle.circuit.specs.Circuits.{Circuit}
+use Rattle.circuit.specs.declared.records.TheConstants.{NODE_WORDS, OUTPUT_WORDS}
+use Rattle.circuit.specs.Circuits.{Circuit, wires_out, KeepsRules}
+use Rattle.graphs.specs.declared.TheConstants.{READS}
 use Rattle.circuit.proofs.Codes.{node_wide, output_wide, nodes_of_area, outputs_of_area, wires_of_outputs}
 use Rattle.circuit.proofs.Checks.{is_whole, circuit-sound}
 use Rattle.ordering.specs.Schedule.{key_at, schedule_of}
@@ -22,67 +24,68 @@ use Rattle.schedule.specs.Call.{graph_in, order_in, room, call_fault, schedule_f
 use Rattle.schedule.specs.Promises.{Promised}
 use Rattle.ordering.proofs.Order.{schedule_fit}
 use Rattle.schedule.proofs.Theorems.{validated_records, promised}
-use Rattle.runs.specs.Runs.{wrong_assignment}
-use Rattle.runs.specs.Calls.{assignment_fault, order_fault, room_fault, run_fault, evaluate_fault}
-use Rattle.runs.proofs.Storage.{monotone, evaluate_same}
+use Rattle.values.specs.Assignments.{wrong_assignment}
+use Rattle.values.specs.Calls.{assignment_fault, room_fault, evaluate_fault}
+use Rattle.values.proofs.Storage.{monotone, evaluate_same}
+use Rattle.values.proofs.Inputs.{assigned, assigned_bits}
+use Rattle.values.proofs.Calls.{has_room}
+use Rattle.runs.specs.Calls.{order_fault, run_fault}
 use Rattle.runs.proofs.Along.{along}
-use Rattle.runs.proofs.Evaluating.{assigned_bits}
-use Rattle.runs.proofs.Calls.{assigned, has_room}
-use Rattle.assurance.specs.Assurance.{wires_out, node_records, output_records, order_of, Lent, Assured}
+use Rattle.assurance.specs.Assurance.{node_records, output_records, order_of, Lent, Assured}
 
 -- ---- the records of a circuit, as areas
 
 module _ (c : Circuit) where
-  node_length : length (node_records c) ≡ length c.nodes * 9
-  node_length = length-encodes encode_node 9 node_wide c.nodes
+  node_length : length (node_records c) ≡ length c.nodes * NODE_WORDS
+  node_length = length-encodes encode_node NODE_WORDS node_wide c.nodes
 
-  output_length : length (output_records c) ≡ length c.outputs * 5
-  output_length = length-encodes encode_output 5 output_wide c.outputs
+  output_length : length (output_records c) ≡ length c.outputs * OUTPUT_WORDS
+  output_length = length-encodes encode_output OUTPUT_WORDS output_wide c.outputs
 
-  pub node_count : length (node_records c) / 9 ≡ length c.nodes
+  pub node_count : length (node_records c) / NODE_WORDS ≡ length c.nodes
   node_count = omega (arith, node_length)
 
-  pub output_count : length (output_records c) / 5 ≡ length c.outputs
+  pub output_count : length (output_records c) / OUTPUT_WORDS ≡ length c.outputs
   output_count = omega (arith, output_length)
 
-  pub nodes-in : nodes_in (node_records c) ≡ c.nodes
-  nodes-in = ap (nodes_of (node_records c)) node_count ∙ nodes_of_area (node_records c) c.nodes [] (sym (append-nil (node_records c)))
+  pub nodes-in : KeepsRules c → nodes_in (node_records c) ≡ c.nodes
+  nodes-in r = ap (nodes_of (node_records c)) node_count ∙ nodes_of_area (node_records c) c.nodes [] r.padded (sym (append-nil (node_records c)))
 
   pub wires-in : wires_in (output_records c) ≡ wires_out c
   wires-in =
       ap (output_wires (output_records c)) output_count ∙ wires_of_outputs (output_records c) (length c.outputs)
       ∙ ap (map (λ (o : Output). o.wire)) (outputs_of_area (output_records c) c.outputs [] (sym (append-nil (output_records c))))
 
-  pub topological : check_circuit c.nodes (wires_out c) ≡ Ok tt → topological_fault (node_records c) (output_records c) ≡ Ok tt
+  pub topological : KeepsRules c → topological_fault (node_records c) (output_records c) ≡ Ok tt
   unfolding topological_fault
-  topological e = rw (is_whole (node_records c) (output_records c) (omega (arith, node_length)) (omega (arith, output_length)), nodes-in, wires-in, e)
+  topological r = rw (is_whole (node_records c) (output_records c) (omega (arith, node_length)) (omega (arith, output_length)), nodes-in r, wires-in, r.checked)
 
 -- ---- demand 3
 
 module _ (c : Circuit) (window : ℕ) (keys assignment old : List ℕ) (ready successors order answers : ℕ)
-    (checks : check_circuit c.nodes (wires_out c) ≡ Ok tt) (lent : Lent c window keys assignment old ready successors order answers) where
-  pub graph-in : graph_in (node_records c) (length (node_records c) / 9) ≡ graph_of c.nodes
+    (rules : KeepsRules c) (lent : Lent c window keys assignment old ready successors order answers) where
+  pub graph-in : graph_in (node_records c) (length (node_records c) / NODE_WORDS) ≡ graph_of c.nodes
   unfolding graph_in
-  graph-in = ap graph_of (nodes-in c)
+  graph-in = ap graph_of (nodes-in c rules)
 
-  pub order-in : order_in (node_records c) (length (node_records c) / 9) window keys ≡ order_of c window keys
+  pub order-in : order_in (node_records c) (length (node_records c) / NODE_WORDS) window keys ≡ order_of c window keys
   unfolding order_in
   order-in = ap (λ (g : List Vertex). schedule_of g window (key_at keys)) graph-in
 
-  rooms : room (length (node_records c) / 9) ready successors order ≡ true
+  rooms : room (length (node_records c) / NODE_WORDS) ready successors order ≡ true
   unfolding room
   rooms =
-      rw (node_count c, le-leb (3 * length c.nodes) ready lent.ready_room, le-leb (2 * length c.nodes + 1) successors lent.successors_room)
+      rw (node_count c, le-leb (3 * length c.nodes) ready lent.ready_room, le-leb (READS * length c.nodes + 1) successors lent.successors_room)
       (le-leb (length c.nodes) order lent.order_room)
 
   call_sound : call_fault (node_records c) (output_records c) window keys ready successors order ≡ Ok tt
   unfolding call_fault
   call_sound =
-      let n : 3 * (length (node_records c) / 9) ≡ 3 * length c.nodes = ap (λ (k : ℕ). 3 * k) (node_count c) in
+      let n : 3 * (length (node_records c) / NODE_WORDS) ≡ 3 * length c.nodes = ap (λ (k : ℕ). 3 * k) (node_count c) in
       rw (
-        validated_records (node_records c) (output_records c) (topological c checks),
+        validated_records (node_records c) (output_records c) (topological c rules),
         ne_eqb window 0 (λ z. omega (arith, z, lent.window_is)),
-        eq-eqb (length keys) (3 * (length (node_records c) / 9)) (lent.keys_are ∙ sym n),
+        eq-eqb (length keys) (3 * (length (node_records c) / NODE_WORDS)) (lent.keys_are ∙ sym n),
         rooms,
       )
 
@@ -90,10 +93,10 @@ module _ (c : Circuit) (window : ℕ) (keys assignment old : List ℕ) (ready su
   promise = promised (node_records c) (output_records c) window keys ready successors order call_sound
 
   pub accepted : schedule_fault (node_records c) (output_records c) window keys ready successors order ≡ Ok tt
-  accepted = promise.validated (topological c checks)
+  accepted = promise.validated (topological c rules)
 
   ordered : InOrder (graph_of c.nodes) (order_of c window keys)
-  ordered = rw (graph-in, order-in) at promise.order_promised.in_order
+  ordered = rw graph-in at promise.order_promised.in_order
 
   listed : ListsAll (graph_of c.nodes) (order_of c window keys)
   listed = rw (graph-in, order-in) at (promise.every accepted)
@@ -110,20 +113,20 @@ module _ (c : Circuit) (window : ℕ) (keys assignment old : List ℕ) (ready su
 
   runs : run_fault (node_records c) (output_records c) (order_of c window keys) assignment (length old) answers ≡ Ok tt
   unfolding run_fault assignment_fault order_fault
-  runs = rw (topological c checks, nodes-in c, lent.values_are, fits) (sym roomy)
+  runs = rw (topological c rules, nodes-in c rules, lent.values_are, fits) (sym roomy)
 
   evaluable : wrong_assignment 1 c.nodes assignment ≡ false → evaluate_fault (node_records c) (output_records c) assignment (length old) answers ≡ Ok tt
   unfolding evaluate_fault assignment_fault
-  evaluable e = rw (topological c checks, nodes-in c, e) (sym roomy)
+  evaluable e = rw (topological c rules, nodes-in c rules, e) (sym roomy)
 
   pub assured : Assured c window keys assignment old ready successors order answers
   assured = record {
-    checked = checks;
+    rules = rules;
     scheduled = accepted;
     run_accepted = runs;
     in_order = ordered;
     lists_all = listed;
-    outputs = along c.nodes (wires_out c) assignment (circuit-sound c.nodes (wires_out c) checks) (order_of c window keys) old lent.store_room fits;
+    outputs = along c.nodes (wires_out c) assignment (circuit-sound c.nodes (wires_out c) rules.checked) (order_of c window keys) old lent.store_room fits;
     evaluate_accepted = evaluable;
     evaluates = λ e. sym (evaluate_same c.nodes (wires_out c) assignment (assigned_bits assignment (assigned 1 c.nodes assignment e).1));
     keeps = λ other agree j known. monotone c.nodes (wires_out c) assignment other agree j known;

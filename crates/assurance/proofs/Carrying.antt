@@ -10,15 +10,15 @@ use native.Mathlib.Omega.{arith}
 use lib.ListN.{length, take, replicate, length-append}
 use lib.Seq.{take_at}
 use Rattle.circuit.specs.declared.refusals.Refusal.{Refusal}
-use Rattle.circuit.specs.Check.{check_circuit}
 use Rattle.graphs.specs.Graph.{cells_of}
 use Rattle.circuit.specs.Graph.{graph_of}
-use Rattle.circuit.specs.Circuits.{Circuit, filled}
+use Rattle.circuit.specs.Circuits.{Circuit, filled, KeepsRules}
 use Rattle.schedule.specs.Call.{Left, leaves, schedule_call}
-use Rattle.runs.specs.Runs.{wrong_assignment}
-use Rattle.runs.specs.Calls.{Result, leaves as result_of, call_result, run_call, evaluate_call}
+use Rattle.values.specs.Assignments.{wrong_assignment}
+use Rattle.values.specs.Calls.{CallResult, after_call as result_of, call_result, evaluate_call}
+use Rattle.runs.specs.Calls.{run_call}
 use Rattle.assurance.specs.declared.Both.{Both}
-use Rattle.assurance.specs.Assurance.{wires_out, node_records, output_records, order_of, outputs_of, Lent, Assured}
+use Rattle.assurance.specs.Assurance.{node_records, output_records, order_of, outputs_of, Lent, Assured}
 use Rattle.assurance.specs.Carried.{RanThenEvaluated, Carried}
 use Rattle.assurance.proofs.Assuring.{output_count, nodes-in, wires-in, graph-in, order-in, accepted, number, assured}
 
@@ -42,25 +42,25 @@ pub ran-then-evaluated : (nodes outputs order assignment old answers evaluates :
     → RanThenEvaluated nodes outputs order assignment old answers evaluates r values' answers' evaluated'
 unfolding evaluate_call
 ran-then-evaluated nodes outputs order assignment old answers evaluates r mid values' answers' evaluated' p l q = record {
-  run_number = ran_number r.ran mid answers' ∙ ap (λ (x : Result). x.number) p;
-  run_count = ran_count r.ran mid answers' ∙ ap (λ (x : Result). x.count) p;
-  outputs_of_run = ran_outputs r.ran mid answers' ∙ ap (λ (x : Result). x.outputs) p;
+  run_number = ran_number r.ran mid answers' ∙ ap (λ (x : CallResult). x.number) p;
+  run_count = ran_count r.ran mid answers' ∙ ap (λ (x : CallResult). x.count) p;
+  outputs_of_run = ran_outputs r.ran mid answers' ∙ ap (λ (x : CallResult). x.outputs) p;
   evaluates = rw l at q;
 }
 
 -- ---- the schedule before it
 
 module _ (c : Circuit) (window : ℕ) (keys assignment old ready successors order : List ℕ) (answers : ℕ)
-    (checks : check_circuit c.nodes (wires_out c) ≡ Ok tt)
+    (rules : KeepsRules c)
     (lent : Lent c window keys assignment old (length ready) (length successors) (length order) answers) where
   call_is : schedule_call (node_records c) (output_records c) window keys ready successors order
       ≡ leaves (Ok (length (cells_of (graph_of c.nodes)))) (replicate (length ready) 0) (replicate (length successors) 0) (filled (order_of c window keys) (length order))
   unfolding schedule_call
   call_is =
       rw (
-        accepted c window keys assignment old (length ready) (length successors) (length order) answers checks lent,
-        graph-in c window keys assignment old (length ready) (length successors) (length order) answers checks lent,
-        order-in c window keys assignment old (length ready) (length successors) (length order) answers checks lent,
+        accepted c window keys assignment old (length ready) (length successors) (length order) answers rules lent,
+        graph-in c window keys assignment old (length ready) (length successors) (length order) answers rules lent,
+        order-in c window keys assignment old (length ready) (length successors) (length order) answers rules lent,
       )
 
   pub not_refused : (e : Refusal) (x y z : List ℕ) → leaves (Err e) x y z ≡ schedule_call (node_records c) (output_records c) window keys ready successors order → ⊥
@@ -79,7 +79,7 @@ module _ (c : Circuit) (window : ℕ) (keys assignment old ready successors orde
     order-area = ap (λ (l : Left). l.order) (q ∙ call_is)
 
     count_is : length (order_of c window keys) ≡ cells
-    count_is = number c window keys assignment old (length ready) (length successors) (length order) answers checks lent ∙ sym cells_are
+    count_is = number c window keys assignment old (length ready) (length successors) (length order) answers rules lent ∙ sym cells_are
 
     pub inside : cells ≤ length z
     inside = omega (arith, count_is, ap length order-area ∙ length-append (order_of c window keys) (replicate (length order - length (order_of c window keys)) 0))
@@ -90,12 +90,12 @@ module _ (c : Circuit) (window : ℕ) (keys assignment old ready successors orde
     module _ (answer evaluates : List ℕ) (same : length answer ≡ answers) (evRoom : length c.outputs ≤ length evaluates) (r : Both) (values' answers' evaluated' : List ℕ)
         (ran : RanThenEvaluated (node_records c) (output_records c) (take cells z) assignment old answer evaluates r values' answers' evaluated') where
       claims : Assured c window keys assignment old (length ready) (length successors) (length order) answers
-      claims = assured c window keys assignment old (length ready) (length successors) (length order) answers checks lent
+      claims = assured c window keys assignment old (length ready) (length successors) (length order) answers rules lent
 
       run_is : run_call (node_records c) (output_records c) (take cells z) assignment old answer
           ≡ record { number = 0; count = length (cells_of (graph_of c.nodes)); store = replicate (length old) 0; outputs = filled (outputs_of c assignment) answers }
       unfolding run_call result_of
-      run_is = rw (order_front, same, claims.run_accepted, nodes-in c, wires-in c, claims.outputs)
+      run_is = rw (order_front, same, claims.run_accepted, nodes-in c rules, wires-in c, claims.outputs)
 
       wide : Lent c window keys assignment old (length ready) (length successors) (length order) (length evaluates)
       wide = record {
@@ -113,23 +113,23 @@ module _ (c : Circuit) (window : ℕ) (keys assignment old ready successors orde
           ≡ record { number = 0; count = length c.outputs; store = replicate (length old) 0; outputs = filled (outputs_of c assignment) (length evaluates) }
       unfolding evaluate_call result_of
       evaluate_is e =
-          let a = assured c window keys assignment old (length ready) (length successors) (length order) (length evaluates) checks wide in
-          rw (a.evaluate_accepted e, nodes-in c, wires-in c, output_count c, a.evaluates e)
+          let a = assured c window keys assignment old (length ready) (length successors) (length order) (length evaluates) rules wide in
+          rw (a.evaluate_accepted e, nodes-in c rules, wires-in c, output_count c, a.evaluates e)
 
       pub carried : Carried c window keys assignment old (length ready) (length successors) (length order) answers (length evaluates) r z values' answers' evaluated'
       carried = record {
         assured = claims;
         order_is = order-area;
-        run_accepted = ran.run_number ∙ ap (λ (x : Result). x.number) run_is;
-        run_cells = ran.run_count ∙ ap (λ (x : Result). x.count) run_is;
-        outputs_are = ran.outputs_of_run ∙ ap (λ (x : Result). x.outputs) run_is;
+        run_accepted = ran.run_number ∙ ap (λ (x : CallResult). x.number) run_is;
+        run_cells = ran.run_count ∙ ap (λ (x : CallResult). x.count) run_is;
+        outputs_are = ran.outputs_of_run ∙ ap (λ (x : CallResult). x.outputs) run_is;
         evaluates = λ e. ran.evaluates ∙ evaluate_is e;
       }
 
 -- ---- the same of slices that hold the circuit's records
 
 module _ (c : Circuit) (window : ℕ) (keys assignment old ready successors order answer evaluates nodes outputs : List ℕ)
-    (p : nodes ≡ node_records c) (q : outputs ≡ output_records c) (checks : check_circuit c.nodes (wires_out c) ≡ Ok tt)
+    (p : nodes ≡ node_records c) (q : outputs ≡ output_records c) (rules : KeepsRules c)
     (lent : Lent c window keys assignment old (length ready) (length successors) (length order) (length answer))
     (r : Try ℕ) (x y z : List ℕ) (call : leaves r x y z ≡ schedule_call nodes outputs window keys ready successors order) where
   as_is : (a : Try ℕ) → r ≡ a → leaves a x y z ≡ schedule_call (node_records c) (output_records c) window keys ready successors order
@@ -138,14 +138,14 @@ module _ (c : Circuit) (window : ℕ) (keys assignment old ready successors orde
       ∙ ap₂ (λ (n o : List ℕ). schedule_call n o window keys ready successors order) p q
 
   pub never_refused : (e : Refusal) → r ≡ Err e → ⊥
-  never_refused e h = not_refused c window keys assignment old ready successors order (length answer) checks lent e x y z (as_is (Err e) h)
+  never_refused e h = not_refused c window keys assignment old ready successors order (length answer) rules lent e x y z (as_is (Err e) h)
 
   pub carried_by : (cells : ℕ) → r ≡ Ok cells → length c.outputs ≤ length evaluates → (b : Both) (values' answers' evaluated' : List ℕ)
       → (cells ≤ length z → RanThenEvaluated nodes outputs (take cells z) assignment old answer evaluates b values' answers' evaluated')
       → Carried c window keys assignment old (length ready) (length successors) (length order) (length answer) (length evaluates) b z values' answers' evaluated'
   carried_by cells h room b values' answers' evaluated' ran =
       let call' = as_is (Ok cells) h in
-      let fits = inside c window keys assignment old ready successors order (length answer) checks lent cells x y z call' in
-      carried c window keys assignment old ready successors order (length answer) checks lent cells x y z call' answer evaluates refl room b values' answers' evaluated'
+      let fits = inside c window keys assignment old ready successors order (length answer) rules lent cells x y z call' in
+      carried c window keys assignment old ready successors order (length answer) rules lent cells x y z call' answer evaluates refl room b values' answers' evaluated'
       (subst (λ (o : List ℕ). RanThenEvaluated (node_records c) o (take cells z) assignment old answer evaluates b values' answers' evaluated') q
       (subst (λ (n : List ℕ). RanThenEvaluated n outputs (take cells z) assignment old answer evaluates b values' answers' evaluated') p (ran fits)))

@@ -10,7 +10,7 @@ use lib.ListN.{length, replicate}
 use Rattle.circuit.specs.declared.refusals.Refusal.{Refusal}
 use Rattle.circuit.specs.Refusals.{Checked}
 use Rattle.schedule.specs.Call.{Left, leaves, schedule_fault, schedule_call}
-use Rattle.runs.specs.Calls.{Result, leaves as gives, evaluate_fault, evaluate_call, call_result}
+use Rattle.values.specs.Calls.{CallResult, after_call as gives, evaluate_fault, evaluate_call, call_result}
 use Rattle.assurance.specs.declared.Both.{Both}
 use Rattle.assurance.specs.Carried.{RanThenEvaluated}
 use Rattle.assurance.specs.Refused.{RefusedRun, RefusedBoth}
@@ -38,7 +38,7 @@ result-store (Err e) s outputs = refl
 store_cleared : (nodes outputs assignment old answers : List ℕ) (e : Try ℕ) (s z : List ℕ) → call_result e s z ≡ evaluate_call nodes outputs assignment old answers → s ≡ replicate (length old) 0
 unfolding evaluate_call
 store_cleared nodes outputs assignment old answers e s z call =
-    sym (result-store e s z) ∙ ap (λ (l : Result). l.store) call
+    sym (result-store e s z) ∙ ap (λ (l : CallResult). l.store) call
     ∙ left_store (evaluate_fault nodes outputs assignment (length old) (length answers)) _ _ (length old) (length answers)
 
 pub ran_cleared : (nodes outputs order assignment old answers evaluated : List ℕ) (r : Both) (values' answers' evaluated' : List ℕ)

@@ -1,24 +1,21 @@
 -- Demand 3, for a circuit that a reader gave: what the schedule, the run and `evaluate` then do.
 -- Assumes nothing.
-use Rattle.std.specs.Prelude.{ℕ, ◌+◌, ◌*◌, ◌≤◌, ◌<◌, ◌≡◌, false, List, map, length, get_or, Ok}
+use Rattle.std.specs.Prelude.{ℕ, ◌+◌, ◌*◌, ◌≤◌, ◌<◌, ◌≡◌, false, List, length, get_or, Ok}
 use Rattle.laws.specs.Areas.{encodes}
-use Rattle.circuit.specs.declared.records.BoolWire.{BoolWire}
-use Rattle.circuit.specs.declared.records.Output.{Output}
 use Rattle.circuit.specs.Records.{encode_node, encode_output}
-use Rattle.circuit.specs.Check.{check_circuit}
 use Rattle.circuit.specs.Graph.{graph_of}
+use Rattle.graphs.specs.declared.TheConstants.{READS}
 use Rattle.graphs.specs.Graph.{InOrder, ListsAll}
-use Rattle.circuit.specs.Circuits.{Circuit}
+use Rattle.circuit.specs.Circuits.{Circuit, wires_out, KeepsRules}
 use Rattle.ordering.specs.Schedule.{key_at, schedule_of}
 use Rattle.schedule.specs.Call.{schedule_fault}
-use Rattle.runs.specs.Values.{storage_outputs, evaluated}
-use Rattle.runs.specs.Runs.{run_outputs, wrong_assignment}
-use Rattle.runs.specs.Calls.{run_fault, evaluate_fault}
+use Rattle.values.specs.Values.{storage_outputs, evaluated}
+use Rattle.values.specs.Assignments.{wrong_assignment}
+use Rattle.values.specs.Calls.{evaluate_fault}
+use Rattle.runs.specs.Runs.{run_outputs}
+use Rattle.runs.specs.Calls.{run_fault}
 
--- the wires of a circuit's outputs, and the words of its records
-abbrev pub wires_out : Circuit → List BoolWire
-wires_out c = map (λ (o : Output). o.wire) c.outputs
-
+-- the words of a circuit's records
 abbrev pub node_records : Circuit → List ℕ
 node_records c = encodes encode_node c.nodes
 
@@ -42,7 +39,7 @@ pub record Lent (c : Circuit) (window : ℕ) (keys assignment old : List ℕ) (r
   pub window_is : 1 ≤ window
   pub keys_are : length keys ≡ 3 * length c.nodes
   pub ready_room : 3 * length c.nodes ≤ ready
-  pub successors_room : 2 * length c.nodes + 1 ≤ successors
+  pub successors_room : READS * length c.nodes + 1 ≤ successors
   pub order_room : length c.nodes ≤ order
   pub values_are : wrong_assignment 2 c.nodes assignment ≡ false
   pub store_room : length c.nodes ≤ length old
@@ -51,7 +48,7 @@ pub record Lent (c : Circuit) (window : ℕ) (keys assignment old : List ℕ) (r
 -- what demand 3 claims
 pub record Assured (c : Circuit) (window : ℕ) (keys assignment old : List ℕ) (ready successors order answers : ℕ) : Type 0 where
   -- the circuit keeps the rules
-  pub checked : check_circuit c.nodes (wires_out c) ≡ Ok tt
+  pub rules : KeepsRules c
   -- schedule and run don't refuse
   pub scheduled : schedule_fault (node_records c) (output_records c) window keys ready successors order ≡ Ok tt
   pub run_accepted : run_fault (node_records c) (output_records c) (order_of c window keys) assignment (length old) answers ≡ Ok tt

@@ -1,14 +1,14 @@
 -- Demand 3 as the composed call carries it: what its answer and its areas are.
 -- Assumes nothing.
-use Rattle.std.specs.Prelude.{ℕ, ◌≤◌, ◌≡◌, false, List, [], length, replicate, Ok}
-use Rattle.circuit.specs.Check.{check_circuit}
+use Rattle.std.specs.Prelude.{ℕ, ◌≤◌, ◌≡◌, false, List, [], length, replicate}
 use Rattle.graphs.specs.Graph.{cells_of}
 use Rattle.circuit.specs.Graph.{graph_of}
-use Rattle.circuit.specs.Circuits.{Circuit, filled}
-use Rattle.runs.specs.Runs.{wrong_assignment}
-use Rattle.runs.specs.Calls.{call_result, run_call, evaluate_call}
+use Rattle.circuit.specs.Circuits.{Circuit, filled, KeepsRules}
+use Rattle.values.specs.Assignments.{wrong_assignment}
+use Rattle.values.specs.Calls.{call_result, evaluate_call}
+use Rattle.runs.specs.Calls.{run_call}
 use Rattle.assurance.specs.declared.Both.{Both}
-use Rattle.assurance.specs.Assurance.{wires_out, node_records, output_records, order_of, outputs_of, Lent, Assured}
+use Rattle.assurance.specs.Assurance.{node_records, output_records, order_of, outputs_of, Lent, Assured}
 
 -- the run, then `evaluate`: each by its own definition
 pub record RanThenEvaluated (nodes outputs order assignment old answers evaluated : List ℕ) (r : Both) (values' answers' evaluated' : List ℕ) : Type 0 where
@@ -41,6 +41,6 @@ pub record Carried (c : Circuit) (window : ℕ) (keys assignment old : List ℕ)
 -- whatever circuit the slices hold
 abbrev pub Carries : List ℕ → List ℕ → ℕ → List ℕ → List ℕ → List ℕ → ℕ → ℕ → ℕ → ℕ → ℕ → Both → List ℕ → List ℕ → List ℕ → List ℕ → Type 0
 Carries nodes outputs window keys assignment old ready successors order answers evaluated r order' values' answers' evaluated' =
-    (c : Circuit) → nodes ≡ node_records c → outputs ≡ output_records c → check_circuit c.nodes (wires_out c) ≡ Ok tt
+    (c : Circuit) → nodes ≡ node_records c → outputs ≡ output_records c → KeepsRules c
     → Lent c window keys assignment old ready successors order answers → length c.outputs ≤ evaluated
     → Carried c window keys assignment old ready successors order answers evaluated r order' values' answers' evaluated'

@@ -1,6 +1,7 @@
 -- What the composed call answers and leaves where it refuses.
 -- Assumes nothing.
 use Rattle.std.specs.Prelude.{ℕ, ◌*◌, ◌≤◌, ◌<◌, ◌≡◌, List, length, take, replicate, Err}
+use Rattle.circuit.specs.declared.records.TheConstants.{NODE_WORDS, OUTPUT_WORDS}
 use Rattle.circuit.specs.declared.refusals.Refusal.{Refusal}
 use Rattle.circuit.specs.declared.refusals.Refusal.TheVariants.{Broken}
 use Rattle.schedule.specs.Call.{schedule_fault}
@@ -29,7 +30,7 @@ RefusesUnordered nodes outputs window keys ready successors order values answers
 
 -- of the first n and o records of two areas: 15 where an area has fewer, else what the schedule refuses with
 pub record RefusesRead (nodes : List ℕ) (n : ℕ) (outputs : List ℕ) (o window : ℕ) (keys : List ℕ) (ready successors order values answers evaluated : ℕ) (r : Both) (ready' successors' order' values' answers' evaluated' : List ℕ) : Type 0 where
-  pub few_nodes : length nodes < n * 9 → RefusedBoth Broken ready successors order values answers evaluated r ready' successors' order' values' answers' evaluated'
-  pub few_outputs : length outputs < o * 5 → RefusedBoth Broken ready successors order values answers evaluated r ready' successors' order' values' answers' evaluated'
-  pub unordered : n * 9 ≤ length nodes → o * 5 ≤ length outputs
-      → RefusesUnordered (take (n * 9) nodes) (take (o * 5) outputs) window keys ready successors order values answers evaluated r ready' successors' order' values' answers' evaluated'
+  pub few_nodes : length nodes < n * NODE_WORDS → RefusedBoth Broken ready successors order values answers evaluated r ready' successors' order' values' answers' evaluated'
+  pub few_outputs : length outputs < o * OUTPUT_WORDS → RefusedBoth Broken ready successors order values answers evaluated r ready' successors' order' values' answers' evaluated'
+  pub unordered : n * NODE_WORDS ≤ length nodes → o * OUTPUT_WORDS ≤ length outputs
+      → RefusesUnordered (take (n * NODE_WORDS) nodes) (take (o * OUTPUT_WORDS) outputs) window keys ready successors order values answers evaluated r ready' successors' order' values' answers' evaluated'

@@ -3,16 +3,17 @@
 #![tactic(auto)]
 
 ghost use Rattle.std.specs.Prelude.{◌≡◌, ◌*◌, ◌≤◌, ◌<◌, length, take, replicate, IfOk, IfErr};
+ghost use Rattle.circuit.specs.declared.records.TheConstants.{NODE_WORDS, OUTPUT_WORDS};
 ghost use Rattle.circuit.specs.declared.refusals.Refusal.TheVariants.{UnfitOrder};
 ghost use Rattle.assurance.specs.Carried.{RanThenEvaluated, Cleared, Carries};
 ghost use Rattle.assurance.specs.Refused.{RefusedRun, RefusedBoth, RefusesUnordered, RefusesRead};
 
 use circuit::areas::clear_all;
-use circuit::records::Sizes;
+use circuit::records::{NODE_WORDS, OUTPUT_WORDS, Sizes};
 use circuit::refusals::Refusal;
-use runs::evaluate::evaluate;
 use runs::run::run;
 use schedule::scheduled_gates_by_key;
+use values::evaluate::evaluate;
 
 // The answers of the run and of `evaluate`.
 #[derive(Clone, Copy)]
@@ -147,7 +148,7 @@ pub fn run_read(
     answers: &mut [u8],
     evaluated: &mut [u8],
 ) -> Both
-    ensures carries { IfOk read (λ sizes. sizes.nodes * 9 ≤ length nodes.now → sizes.outputs * 5 ≤ length outputs.now → Carries (take (sizes.nodes * 9) nodes.now) (take (sizes.outputs * 5) outputs.now) asked.entry.window asked.entry.keys.now asked.entry.assignment.now values.old (length ready.old) (length successors.old) (length order.old) (length answers.old) (length evaluated.old) result order.new values.new answers.new evaluated.new) }
+    ensures carries { IfOk read (λ sizes. sizes.nodes * NODE_WORDS ≤ length nodes.now → sizes.outputs * OUTPUT_WORDS ≤ length outputs.now → Carries (take (sizes.nodes * NODE_WORDS) nodes.now) (take (sizes.outputs * OUTPUT_WORDS) outputs.now) asked.entry.window asked.entry.keys.now asked.entry.assignment.now values.old (length ready.old) (length successors.old) (length order.old) (length answers.old) (length evaluated.old) result order.new values.new answers.new evaluated.new) }
     ensures refuses_unread { IfErr read (λ e. RefusedBoth e (length ready.old) (length successors.old) (length order.old) (length values.old) (length answers.old) (length evaluated.old) result ready.new successors.new order.new values.new answers.new evaluated.new) }
     ensures refuses_read { IfOk read (λ sizes. RefusesRead nodes.now sizes.nodes outputs.now sizes.outputs asked.entry.window asked.entry.keys.now (length ready.old) (length successors.old) (length order.old) (length values.old) (length answers.old) (length evaluated.old) result ready.new successors.new order.new values.new answers.new evaluated.new) }
     ensures cleared { Cleared (length ready.old) (length successors.old) (length values.old) ready.new successors.new values.new }
@@ -156,7 +157,7 @@ pub fn run_read(
         Ok(sizes) => sizes,
         Err(e) => return refuse_both(e, ready, successors, order, values, answers, evaluated),
     };
-    if nodes.len() / 9 < sizes.nodes || outputs.len() / 5 < sizes.outputs {
+    if nodes.len() / NODE_WORDS < sizes.nodes || outputs.len() / OUTPUT_WORDS < sizes.outputs {
         return refuse_both(
             Refusal::Broken,
             ready,
@@ -168,8 +169,8 @@ pub fn run_read(
         );
     }
     order_and_run(
-        &nodes[..sizes.nodes * 9],
-        &outputs[..sizes.outputs * 5],
+        &nodes[..sizes.nodes * NODE_WORDS],
+        &outputs[..sizes.outputs * OUTPUT_WORDS],
         asked,
         ready,
         successors,

@@ -6,14 +6,12 @@ use Rattle.std.specs.Prelude.{Ok}
 use Prim.Native.Nat.{ℕ}
 use mathlib.Core.Path.{◌≡◌, refl}
 use mathlib.Core.List.{List}
-use Rattle.circuit.specs.Check.{check_circuit}
-use Rattle.circuit.specs.Circuits.{Circuit, filled, read_answer, node_words, output_words}
+use Rattle.circuit.specs.Circuits.{Circuit, KeepsRules, filled, read_answer, node_words, output_words}
 use Rattle.bristol.specs.Bristol.{bristol, bristol_circuit}
 use Rattle.bristol.specs.Promises.{Leaves}
 use Rattle.bristol.proofs.Sound.{bristol-sound}
-use Rattle.assurance.specs.Assurance.{wires_out}
 
-pub sound : (text : List ℕ) (n o w : ℕ) (c : Circuit) → bristol_circuit text n o w ≡ Ok c → check_circuit c.nodes (wires_out c) ≡ Ok tt
+pub sound : (text : List ℕ) (n o w : ℕ) (c : Circuit) → bristol_circuit text n o w ≡ Ok c → KeepsRules c
 sound text n o w c q = bristol-sound text n o w c q
 
 module _ (text : List ℕ) (n o w : ℕ) (r : Try Sizes) (N O W : List ℕ) (l : Leaves (bristol text n o w) r N O W) where

@@ -13,14 +13,14 @@ use Rattle.laws.proofs.Areas.{length-encodes}
 use Rattle.circuit.specs.declared.refusals.Refusal.{Refusal}
 use Rattle.circuit.specs.Refusals.{Try}
 use Rattle.circuit.specs.Records.{encode_node, encode_output}
-use Rattle.circuit.specs.Check.{check_circuit}
 use Rattle.circuit.proofs.Tries.{yes_same}
-use Rattle.circuit.specs.Circuits.{Circuit, filled, read_answer, node_words, output_words}
+use Rattle.circuit.specs.Circuits.{Circuit, filled, read_answer, node_words, output_words, KeepsRules}
+use Rattle.circuit.specs.declared.records.TheConstants.{NODE_WORDS, OUTPUT_WORDS}
 use Rattle.circuit.proofs.Codes.{node_wide, output_wide}
 use Rattle.schedule.specs.Call.{schedule_fault}
 use Rattle.reading.specs.Areas.{Leaves}
 use Rattle.assurance.specs.declared.Both.{Both}
-use Rattle.assurance.specs.Assurance.{wires_out, node_records, output_records}
+use Rattle.assurance.specs.Assurance.{node_records, output_records}
 use Rattle.assurance.specs.Carried.{Carries}
 use Rattle.assurance.specs.Refused.{RefusedBoth, RefusesRead}
 use Rattle.assured.specs.Assured.{Assures, Refuses}
@@ -68,17 +68,17 @@ module _ (read : Try Circuit) (n o : ℕ) (r : Try Sizes) (N O : List ℕ) (answ
     output_area : O ≡ filled (output_records c) o
     output_area = outputs_are ∙ ap (λ (t : Try Circuit). filled (output_words t) o) q
 
-    nodes_inside : z.nodes * 9 ≤ length N
-    nodes_inside = records_inside encode_node 9 node_wide c.nodes z.nodes n N node_area node_count
+    nodes_inside : z.nodes * NODE_WORDS ≤ length N
+    nodes_inside = records_inside encode_node NODE_WORDS node_wide c.nodes z.nodes n N node_area node_count
 
-    outputs_inside : z.outputs * 5 ≤ length O
-    outputs_inside = records_inside encode_output 5 output_wide c.outputs z.outputs o O output_area output_count
+    outputs_inside : z.outputs * OUTPUT_WORDS ≤ length O
+    outputs_inside = records_inside encode_output OUTPUT_WORDS output_wide c.outputs z.outputs o O output_area output_count
 
-    nodes_front : take (z.nodes * 9) N ≡ node_records c
-    nodes_front = records_front encode_node 9 node_wide c.nodes z.nodes n N node_area node_count
+    nodes_front : take (z.nodes * NODE_WORDS) N ≡ node_records c
+    nodes_front = records_front encode_node NODE_WORDS node_wide c.nodes z.nodes n N node_area node_count
 
-    outputs_front : take (z.outputs * 5) O ≡ output_records c
-    outputs_front = records_front encode_output 5 output_wide c.outputs z.outputs o O output_area output_count
+    outputs_front : take (z.outputs * OUTPUT_WORDS) O ≡ output_records c
+    outputs_front = records_front encode_output OUTPUT_WORDS output_wide c.outputs z.outputs o O output_area output_count
 
   module _ (window : ℕ) (keys assignment old : List ℕ) (ready successors order answers evaluated : ℕ) (b : Both) (ready' successors' order' values' answers' evaluated' : List ℕ) where
     -- the composed call, of a text that the reader refuses
@@ -98,8 +98,8 @@ module _ (read : Try Circuit) (n o : ℕ) (r : Try Sizes) (N O : List ℕ) (answ
     )
 
     -- and of one that it accepts
-    assures : ((c : Circuit) → read ≡ Ok c → check_circuit c.nodes (wires_out c) ≡ Ok tt) → (z : Sizes) → r ≡ Ok z
-        → (z.nodes * 9 ≤ length N → z.outputs * 5 ≤ length O → Carries (take (z.nodes * 9) N) (take (z.outputs * 5) O) window keys assignment old ready successors order answers evaluated b order' values' answers' evaluated')
+    assures : ((c : Circuit) → read ≡ Ok c → KeepsRules c) → (z : Sizes) → r ≡ Ok z
+        → (z.nodes * NODE_WORDS ≤ length N → z.outputs * OUTPUT_WORDS ≤ length O → Carries (take (z.nodes * NODE_WORDS) N) (take (z.outputs * OUTPUT_WORDS) O) window keys assignment old ready successors order answers evaluated b order' values' answers' evaluated')
         → RefusesRead N z.nodes O z.outputs window keys ready successors order (length old) answers evaluated b ready' successors' order' values' answers' evaluated'
         → Assures read window keys assignment old ready successors order answers evaluated b order' values' answers' evaluated'
         × Refuses read window keys ready successors order (length old) answers evaluated b ready' successors' order' values' answers' evaluated'
@@ -115,8 +115,8 @@ module _ (read : Try Circuit) (n o : ℕ) (r : Try Sizes) (N O : List ℕ) (answ
     )
 
     -- the composed call, of whatever the reader answers
-    pub composed : ((c : Circuit) → read ≡ Ok c → check_circuit c.nodes (wires_out c) ≡ Ok tt)
-        → IfOk r (λ z. z.nodes * 9 ≤ length N → z.outputs * 5 ≤ length O → Carries (take (z.nodes * 9) N) (take (z.outputs * 5) O) window keys assignment old ready successors order answers evaluated b order' values' answers' evaluated')
+    pub composed : ((c : Circuit) → read ≡ Ok c → KeepsRules c)
+        → IfOk r (λ z. z.nodes * NODE_WORDS ≤ length N → z.outputs * OUTPUT_WORDS ≤ length O → Carries (take (z.nodes * NODE_WORDS) N) (take (z.outputs * OUTPUT_WORDS) O) window keys assignment old ready successors order answers evaluated b order' values' answers' evaluated')
         → IfErr r (λ e. RefusedBoth e ready successors order (length old) answers evaluated b ready' successors' order' values' answers' evaluated')
         → IfOk r (λ z. RefusesRead N z.nodes O z.outputs window keys ready successors order (length old) answers evaluated b ready' successors' order' values' answers' evaluated')
         → Assures read window keys assignment old ready successors order answers evaluated b order' values' answers' evaluated'
@@ -124,7 +124,7 @@ module _ (read : Try Circuit) (n o : ℕ) (r : Try Sizes) (N O : List ℕ) (answ
     composed sound = go r refl
       where
         go : (x : Try Sizes) → r ≡ x
-            → IfOk x (λ z. z.nodes * 9 ≤ length N → z.outputs * 5 ≤ length O → Carries (take (z.nodes * 9) N) (take (z.outputs * 5) O) window keys assignment old ready successors order answers evaluated b order' values' answers' evaluated')
+            → IfOk x (λ z. z.nodes * NODE_WORDS ≤ length N → z.outputs * OUTPUT_WORDS ≤ length O → Carries (take (z.nodes * NODE_WORDS) N) (take (z.outputs * OUTPUT_WORDS) O) window keys assignment old ready successors order answers evaluated b order' values' answers' evaluated')
             → IfErr x (λ e. RefusedBoth e ready successors order (length old) answers evaluated b ready' successors' order' values' answers' evaluated')
             → IfOk x (λ z. RefusesRead N z.nodes O z.outputs window keys ready successors order (length old) answers evaluated b ready' successors' order' values' answers' evaluated')
             → Assures read window keys assignment old ready successors order answers evaluated b order' values' answers' evaluated'

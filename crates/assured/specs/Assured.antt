@@ -3,19 +3,18 @@
 use Rattle.std.specs.Prelude.{ℕ, ◌≤◌, ◌≡◌, List, length, Err, Ok}
 use Rattle.circuit.specs.declared.refusals.Refusal.{Refusal}
 use Rattle.circuit.specs.Refusals.{Try}
-use Rattle.circuit.specs.Circuits.{Circuit}
-use Rattle.circuit.specs.Check.{check_circuit}
+use Rattle.circuit.specs.Circuits.{Circuit, KeepsRules}
 use Rattle.reading.specs.Reading.{Places}
 use Rattle.reading.specs.Areas.{read_text}
 use Rattle.schedule.specs.Call.{schedule_fault}
 use Rattle.assurance.specs.declared.Both.{Both}
-use Rattle.assurance.specs.Assurance.{wires_out, node_records, output_records, Lent}
+use Rattle.assurance.specs.Assurance.{node_records, output_records, Lent}
 use Rattle.assurance.specs.Carried.{Carried}
 use Rattle.assurance.specs.Refused.{RefusedBoth}
 
 -- what is read of a text of the format passes the circuit check, whatever the areas' sizes
 abbrev pub Sounds : (List ℕ → Places → Try Circuit) → Type 0
-Sounds lines = (text : List ℕ) (j n m o : ℕ) (c : Circuit) → read_text lines text j n m o ≡ Ok c → check_circuit c.nodes (wires_out c) ≡ Ok tt
+Sounds lines = (text : List ℕ) (j n m o : ℕ) (c : Circuit) → read_text lines text j n m o ≡ Ok c → KeepsRules c
 
 -- whatever the reader's definition gives of the text: if it accepts, demand 3 holds of the answer and of every area
 abbrev pub Assures : Try Circuit → ℕ → List ℕ → List ℕ → List ℕ → ℕ → ℕ → ℕ → ℕ → ℕ → Both → List ℕ → List ℕ → List ℕ → List ℕ → Type 0

@@ -13,8 +13,7 @@ use Rattle.laws.proofs.Stretches.{all_map}
 use Rattle.circuit.specs.declared.refusals.Refusal.TheVariants.{Malformed}
 use Rattle.circuit.specs.declared.records.Name.{Name}
 use Rattle.circuit.specs.Refusals.{and_then}
-use Rattle.circuit.specs.Check.{check_circuit}
-use Rattle.circuit.specs.Circuits.{Circuit}
+use Rattle.circuit.specs.Circuits.{Circuit, KeepsRules}
 use Rattle.circuit.proofs.Tries.{no_yes, yes_same, then_yes, need-yes, check_yes}
 use Rattle.circuit.proofs.Sitting.{Sits}
 use Rattle.circuit.proofs.Words.{word_cell_sits}
@@ -28,7 +27,7 @@ use Rattle.reading.specs.Reading.{Places, Held, State, start, find, driver, next
 use Rattle.reading.specs.States.{with_held}
 use Rattle.reading.specs.Areas.{read_text}
 use Rattle.reading.proofs.States.{held_yes, outputs-yes, undefined_yes}
-use Rattle.reading.proofs.Sound.{Wired, HeldSound, start-sound, wired_more, driver_below, alias_sound, node_sits, named-sound, input_sound, each_keeps, wires_out, finish-sound}
+use Rattle.reading.proofs.Sound.{Wired, HeldSound, start-sound, wired_more, driver_below, alias_sound, node_sits, named-sound, input_sound, each_keeps, finish-sound}
 use Rattle.bench_invocations.specs.Invocations.{parse_invocation}
 use Rattle.bench_gates.specs.declared.operations.Binary.{Binary}
 use Rattle.bench_gates.specs.declared.operations.Binary.TheVariants.{And, Nand, Or, Nor, Xor, Xnor}
@@ -125,7 +124,7 @@ line_sound t p at end cut s s' h q = go (ltb cut end) q
 
 -- ---- the whole
 
-pub bench-sound : (text : List ℕ) (j n m o : ℕ) (c : Circuit) → bench text j n m o ≡ Ok c → check_circuit c.nodes (wires_out c) ≡ Ok tt
+pub bench-sound : (text : List ℕ) (j n m o : ℕ) (c : Circuit) → bench text j n m o ≡ Ok c → KeepsRules c
 unfolding read_text bench_lines read_line
 bench-sound text j n m o c q =
     let t = joined_text text in

@@ -8,7 +8,7 @@ use Rattle.laws.specs.Areas.{capacity}
 use Rattle.laws.specs.Stretches.{stretch, run, same_bytes}
 use Rattle.circuit.specs.Refusals.{Try}
 use Rattle.circuit.specs.Records.{places as wire_places, input_node, cell_node, is_cell_node, wires_of}
-use Rattle.circuit.specs.Circuits.{Circuit}
+use Rattle.circuit.specs.Circuits.{Circuit, wires_out}
 use Rattle.text.specs.Bytes.{is_ascii, upper}
 use Rattle.text.specs.Blanks.{is_blank, trim, trim_start, trim_end, trimmed}
 use Rattle.text.specs.Lines.{raw_lines, uncommented, kept, kept_of, kept_lines, lines, places}
@@ -17,7 +17,6 @@ use Rattle.text.specs.declared.words.Word.{Word}
 use Rattle.names.specs.Names.{lookup}
 use Rattle.reading.specs.Reading.{bytes_fault, text_fault, find, add_name, add_node, add_named, add_input, add_output, each, resolve, closed, finish}
 use Rattle.reading.specs.Areas.{read_text}
-use Rattle.reading.proofs.Sound.{wires_out}
 use Rattle.values.specs.Values.{answer_of, values_from, outputs_from, storage_values, storage_outputs}
 use Rattle.bench_invocations.specs.Invocations.{arguments_of, none_empty, parts, up_to_last, invocation, parse_invocation}
 use Rattle.bench_gates.specs.declared.operations.Operation.TheVariants.{Chain}

@@ -14,7 +14,7 @@ use Rattle.circuit.specs.declared.records.BoolWire.{BoolWire}
 use Rattle.circuit.specs.declared.records.BoolNode.{BoolNode}
 use Rattle.circuit.specs.declared.records.Output.{Output}
 use Rattle.circuit.specs.Refusals.{and_then}
-use Rattle.circuit.specs.Circuits.{Circuit}
+use Rattle.circuit.specs.Circuits.{Circuit, wires_out}
 use Rattle.circuit.proofs.Tries.{yes_same, then_yes, check_yes}
 use Rattle.text.specs.Words.{bytes_of}
 use Rattle.text.specs.Lines.{lines}
@@ -22,7 +22,6 @@ use Rattle.text.specs.Joining.{joined_text}
 use Rattle.text.specs.declared.words.Word.{Word}
 use Rattle.reading.specs.Reading.{Places, places_in, Held, State, start, text_fault, find, each, Out, output_of, resolve, finish}
 use Rattle.reading.specs.Areas.{read_text}
-use Rattle.reading.proofs.Sound.{wires_out}
 use Rattle.cells.proofs.Rule.{Each}
 use Rattle.values.specs.Values.{signal_value, outputs_from, storage_values, storage_outputs}
 use Rattle.values.specs.Assignments.{input_count}

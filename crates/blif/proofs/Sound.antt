@@ -10,8 +10,7 @@ use lib.ListN.{length}
 use lib.Dec.{eqb}
 use Rattle.laws.specs.Stretches.{All}
 use Rattle.circuit.specs.declared.records.TheConstants.{WIRES}
-use Rattle.circuit.specs.Check.{check_circuit}
-use Rattle.circuit.specs.Circuits.{Circuit}
+use Rattle.circuit.specs.Circuits.{Circuit, KeepsRules}
 use Rattle.circuit.proofs.Tries.{no_yes, yes_same, then_yes}
 use Rattle.circuit.proofs.Words.{word_cell_sits}
 use Rattle.text.specs.Lines.{lines, line_words}
@@ -23,7 +22,7 @@ use Rattle.cover.specs.Cover.{last_of}
 use Rattle.cover.specs.Directives.{dotted, directive_of, rest_of, rows_of}
 use Rattle.cover.proofs.TableLaws.{cover-fits}
 use Rattle.reading.specs.Reading.{Places, places_in, Held, State, start, find, stretch_name, driver, add_alias, add_input, add_output, each}
-use Rattle.reading.proofs.Sound.{HeldSound, start-sound, driver_below, alias_sound, named-sound, input_sound, each_keeps, finish-sound, wires_out}
+use Rattle.reading.proofs.Sound.{HeldSound, start-sound, driver_below, alias_sound, named-sound, input_sound, each_keeps, finish-sound}
 use Rattle.blif.specs.Blif.{drivers, input_names, gate_cell, cell, gate, names_line, directive_step, line_step, row_next, read_lines, blif}
 use Rattle.reading.proofs.States.{held_yes, outputs-yes}
 use Rattle.blif.specs.declared.gates.TheConstants.{BUFFER}
@@ -92,7 +91,7 @@ lines-sound t p row (l ∷ ls) s s' k q =
     step mid z true e = directive-sound t p (directive_of t l) (rest_of (line_words t l)) (rows_of t ls) s mid k (z.0 e)
     step mid z false e = subst (λ (x : State). HeldSound x.held) (z.1 e) k
 
-pub blif-sound : (text : List ℕ) (j n m o : ℕ) (c : Circuit) → blif text j n m o ≡ Ok c → check_circuit c.nodes (wires_out c) ≡ Ok tt
+pub blif-sound : (text : List ℕ) (j n m o : ℕ) (c : Circuit) → blif text j n m o ≡ Ok c → KeepsRules c
 blif-sound text j n m o c q =
     let y = text_yes text j n m o c q in
     finish-sound false (joined_text text) y.state c

@@ -26,10 +26,10 @@ use Rattle.circuit.specs.declared.records.BoolNode.{BoolNode}
 use Rattle.circuit.specs.declared.records.Output.{Output}
 use Rattle.circuit.specs.Refusals.{Try, and_then, need}
 use Rattle.circuit.specs.Records.{wire_of, wire_word, no_wire, cell_node}
-use Rattle.circuit.specs.Check.{not_below, some_not_below, check_circuit}
-use Rattle.circuit.specs.Circuits.{Circuit}
+use Rattle.circuit.specs.Check.{not_below, some_not_below}
+use Rattle.circuit.specs.Circuits.{Circuit, KeepsRules}
 use Rattle.circuit.proofs.Tries.{no_yes, yes_same, then_yes, need-yes}
-use Rattle.circuit.proofs.Sitting.{AllSit, Sits, sit_more, circuit_checked, word_below, input_sits, cell_sits}
+use Rattle.circuit.proofs.Sitting.{each_padded, AllSit, Sits, sit_more, circuit_checked, word_below, input_sits, cell_sits}
 use Rattle.text.specs.declared.TheConstants.{MOST_TEXT}
 use Rattle.text.specs.Bytes.{is_ascii, is_named}
 use Rattle.text.specs.Words.{split_whitespace}
@@ -233,7 +233,7 @@ none_yet m = refl
 
 -- ---- the whole
 
-pub bristol-sound : (text : List ℕ) (nodes outputs wires : ℕ) (c : Circuit) → bristol_circuit text nodes outputs wires ≡ Ok c → check_circuit c.nodes (out_wires c.outputs) ≡ Ok tt
+pub bristol-sound : (text : List ℕ) (nodes outputs wires : ℕ) (c : Circuit) → bristol_circuit text nodes outputs wires ≡ Ok c → KeepsRules c
 unfolding bristol_circuit circuit body
 bristol-sound text nodes outputs wires c e =
     let p = need-yes (leb (length text) MOST_TEXT) _ _ c e in
@@ -247,4 +247,4 @@ bristol-sound text nodes outputs wires c e =
     let o = then_yes (outputs_from (capacity OUTPUT_WORDS outputs) from (drop from s.0.wires) []) _ c g.1 in
     let k = rows-sound (capacity NODE_WORDS nodes) (drop 3 (kept_lines text)) (start h.0) s.0 (start-sound h.0) s.1 in
     let b = outputs_below (length s.0.nodes) (capacity OUTPUT_WORDS outputs) from (drop from s.0.wires) (λ i. omega (arith, get_or-drop from s.0.wires i 0, k.wired (from + i))) [] o.0 o.1 (none_yet (length s.0.nodes)) in
-    subst (λ (z : Circuit). check_circuit z.nodes (out_wires z.outputs) ≡ Ok tt) (yes_same o.2) (circuit_checked s.0.nodes (out_wires o.0) k.sits b)
+    subst KeepsRules (yes_same o.2) (record { checked = circuit_checked s.0.nodes (out_wires o.0) k.sits b; padded = each_padded 0 s.0.nodes k.sits })

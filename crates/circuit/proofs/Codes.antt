@@ -9,6 +9,7 @@ use Rattle.circuit.specs.declared.records.Name.{Name}
 use Rattle.circuit.specs.declared.records.Name.TheVariants.{Stretch, Step, Number}
 use Rattle.circuit.specs.declared.records.BoolNode.{BoolNode}
 use Rattle.circuit.specs.declared.records.Output.{Output}
+use Rattle.circuit.specs.Circuits.{Padded}
 use Rattle.circuit.specs.declared.records.TheConstants.{WIRES, WIRES_AT, NODE_WORDS, OUTPUT_WORDS}
 use Rattle.circuit.specs.Records.{no_node, no_wire, places, input_node, cell_node, encode_output, output_from, output_at, nodes_of, outputs_of, output_wire, output_wires, wire_word, wire_of, name_words, name_from, encode_node, node_from, node_at}
 use Rattle.laws.specs.Areas.{encodes, stored}
@@ -69,12 +70,8 @@ up_same f g i (suc m) h =
     ap₂ (λ x l. x ∷ l) (subst (λ (j : ℕ). f j ≡ g j) zero_more (h 0 (omega arith)))
     (up_same f g (suc i) m (λ k l. let e : i + suc k ≡ suc i + k = omega arith in subst (λ (j : ℕ). f j ≡ g j) e (h (suc k) (omega arith))))
 
--- a record as code has it: its wires are its places
-pub record Placed (n : BoolNode) : Type 0 where
-  pub is : n.wires ≡ places n.wires
-
 -- a node from words that agree with its code
-pub node_back : (n : BoolNode) → Placed n → (f : ℕ → ℕ) → ((j : ℕ) → j < NODE_WORDS → f j ≡ get_or (encode_node n) j 0) → node_from f ≡ n
+pub node_back : (n : BoolNode) → Padded n → (f : ℕ → ℕ) → ((j : ℕ) → j < NODE_WORDS → f j ≡ get_or (encode_node n) j 0) → node_from f ≡ n
 unfolding node_from encode_node places
 node_back n placed f h =
     let l = map wire_word (places n.wires) in
@@ -100,17 +97,17 @@ node_wide n = go n.name (map wire_word (places n.wires)) (length_place_words n.w
     go (Number w) l e = omega arith
 
 -- what is read is so, and what the constructors make
-pub read_placed : (f : ℕ → ℕ) → Placed (node_from f)
+pub read_padded : (f : ℕ → ℕ) → Padded (node_from f)
 unfolding node_from
-read_placed f = record { is = placed (node_from f).wires (node_from f).wires (length_wires f) (λ k _. refl) }
+read_padded f = record { is = placed (node_from f).wires (node_from f).wires (length_wires f) (λ k _. refl) }
 
-pub input_placed : (name : Name) → Placed (input_node name)
+pub input_padded : (name : Name) → Padded (input_node name)
 unfolding input_node
-input_placed name = record { is = placed (places []) (places []) (length-places []) (λ k _. refl) }
+input_padded name = record { is = placed (places []) (places []) (length-places []) (λ k _. refl) }
 
-pub cell_placed : (name : Name) (t : ℕ) (ws : List BoolWire) → Placed (cell_node name t ws)
+pub cell_padded : (name : Name) (t : ℕ) (ws : List BoolWire) → Padded (cell_node name t ws)
 unfolding cell_node
-cell_placed name t ws = record { is = placed (places ws) (places ws) (length-places ws) (λ k _. refl) }
+cell_padded name t ws = record { is = placed (places ws) (places ws) (length-places ws) (λ k _. refl) }
 
 -- ---- the same of an output
 
@@ -139,20 +136,20 @@ no_output : Output
 no_output = record { name = Stretch 0 0; wire = Const false }
 
 -- the list that an area of its records and anything after them gives back
-pub nodes_of_area : (a : List ℕ) (ns : List BoolNode) (rest : List ℕ) → ((k : ℕ) → k < length ns → Placed (get_or ns k no_node)) → a ≡ encodes encode_node ns ++ rest → nodes_of a (length ns) ≡ ns
-nodes_of_area a ns rest good e = list_of_good encode_node NODE_WORDS node_wide node_from no_node Placed node_back read_placed a ns rest good e
+pub nodes_of_area : (a : List ℕ) (ns : List BoolNode) (rest : List ℕ) → ((k : ℕ) → k < length ns → Padded (get_or ns k no_node)) → a ≡ encodes encode_node ns ++ rest → nodes_of a (length ns) ≡ ns
+nodes_of_area a ns rest good e = list_of_good encode_node NODE_WORDS node_wide node_from no_node Padded node_back read_padded a ns rest good e
 
 pub outputs_of_area : (a : List ℕ) (os : List Output) (rest : List ℕ) → a ≡ encodes encode_output os ++ rest → outputs_of a (length os) ≡ os
 outputs_of_area a os rest e = list_of encode_output OUTPUT_WORDS output_wide output_from output_back no_output a os rest e
 
 -- the next record, stored after the others: the list, and the area's words
-module _ (a b : List ℕ) (m : ℕ) (x : BoolNode) (fine : Placed x) (put : b ≡ stored a (m * NODE_WORDS) (encode_node x)) (same : length b ≡ length a)
+module _ (a b : List ℕ) (m : ℕ) (x : BoolNode) (fine : Padded x) (put : b ≡ stored a (m * NODE_WORDS) (encode_node x)) (same : length b ≡ length a)
     (clean : a ≡ encodes encode_node (nodes_of a m) ++ replicate (length a - m * NODE_WORDS) 0) where
   pub next_nodes : nodes_of b (m + 1) ≡ nodes_of a m ++ (x ∷ [])
-  next_nodes = more_good_list encode_node NODE_WORDS node_wide node_from no_node Placed node_back read_placed a b m x fine put same clean
+  next_nodes = more_good_list encode_node NODE_WORDS node_wide node_from no_node Padded node_back read_padded a b m x fine put same clean
 
   pub next_nodes_clean : b ≡ encodes encode_node (nodes_of b (m + 1)) ++ replicate (length b - (m + 1) * NODE_WORDS) 0
-  next_nodes_clean = more_good_clean encode_node NODE_WORDS node_wide node_from no_node Placed node_back read_placed a b m x fine put same clean
+  next_nodes_clean = more_good_clean encode_node NODE_WORDS node_wide node_from no_node Padded node_back read_padded a b m x fine put same clean
 
 pub length_nodes : (a : List ℕ) (m : ℕ) → length (nodes_of a m) ≡ m
 length_nodes a m = length_up (node_at a) 0 m

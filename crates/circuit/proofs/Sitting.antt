@@ -18,11 +18,12 @@ use Rattle.circuit.specs.Records.{wire_of, wires_of, is_cell_node, input_node, c
 use Rattle.circuit.specs.Check.{cell_broken, record_broken, not_below, some_not_below, check_wires, check_node, check_nodes, check_circuit}
 use Rattle.circuit.proofs.Checks.{all_below_more}
 use Rattle.circuit.proofs.Places.{wires_of_cell}
-use Rattle.circuit.proofs.Codes.{Placed, input_placed, cell_placed}
+use Rattle.circuit.specs.Circuits.{Padded}
+use Rattle.circuit.proofs.Codes.{input_padded, cell_padded}
 
 -- a node that keeps the rules and reads only nodes before place i, with a wire in each place of its record
 pub record Sits (i : ℕ) (n : BoolNode) : Type 0 where
-  pub placed : Placed n
+  pub padded : Padded n
   pub rules : record_broken n ≡ false
   pub earlier : some_not_below i (wires_of n) ≡ false
 
@@ -35,10 +36,10 @@ pub sit_more : (i : ℕ) (ns : List BoolNode) (n : BoolNode) → AllSit i ns →
 sit_more i [] n h s = (subst (λ (k : ℕ). Sits k n) (add-zero i) s, tt)
 sit_more i (x ∷ xs) n h s = (h.0, sit_more (suc i) xs n h.1 (subst (λ (k : ℕ). Sits k n) (omega arith) s))
 
-pub each_placed : (i : ℕ) (ns : List BoolNode) → AllSit i ns → (k : ℕ) → k < length ns → Placed (get_or ns k no_node)
-each_placed i [] h k l = absurd (omega arith)
-each_placed i (n ∷ ns) h zero l = h.0.placed
-each_placed i (n ∷ ns) h (suc k) l = each_placed (suc i) ns h.1 k (omega arith)
+pub each_padded : (i : ℕ) (ns : List BoolNode) → AllSit i ns → (k : ℕ) → k < length ns → Padded (get_or ns k no_node)
+each_padded i [] h k l = absurd (omega arith)
+each_padded i (n ∷ ns) h zero l = h.0.padded
+each_padded i (n ∷ ns) h (suc k) l = each_padded (suc i) ns h.1 k (omega arith)
 
 -- ---- the check accepts them
 
@@ -71,14 +72,14 @@ word_below m (suc (suc k)) h = lt-leb m k (omega arith)
 
 pub input_sits : (i : ℕ) (name : Name) → Sits i (input_node name)
 unfolding record_broken input_node wires_of is_cell_node
-input_sits i name = record { placed = input_placed name; rules = refl; earlier = refl }
+input_sits i name = record { padded = input_padded name; rules = refl; earlier = refl }
 
 -- a cell on wires of earlier nodes, of which a record has places for each, with a table of no more entries than they pick
 pub cell_sits : (i : ℕ) (name : Name) (t : ℕ) (ws : List BoolWire) → 1 ≤ length ws → length ws ≤ WIRES → t < 2 ^ 2 ^ length ws → some_not_below i ws ≡ false
     → Sits i (cell_node name t ws)
 unfolding record_broken cell_broken cell_node
 cell_sits i name t ws l h b e = record {
-  placed = cell_placed name t ws;
+  padded = cell_padded name t ws;
   rules = rw (le-leb 1 (length ws) l, le-leb (length ws) WIRES h) (lt-leb (2 ^ 2 ^ length ws) t b);
   earlier = rw (wires_of_cell name t ws h, e);
 }

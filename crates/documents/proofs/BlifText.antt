@@ -17,7 +17,7 @@ use Rattle.circuit.specs.declared.records.BoolWire.{BoolWire}
 use Rattle.circuit.specs.declared.records.BoolNode.{BoolNode}
 use Rattle.circuit.specs.declared.records.Output.{Output}
 use Rattle.circuit.specs.Refusals.{Try, need}
-use Rattle.circuit.specs.Circuits.{Circuit}
+use Rattle.circuit.specs.Circuits.{Circuit, wires_out}
 use Rattle.circuit.proofs.Tries.{no_yes, yes_same, then_yes, need-yes}
 use Rattle.text.specs.Words.{bytes_of, split_whitespace}
 use Rattle.text.specs.Lines.{lines, line_words}
@@ -27,7 +27,7 @@ use Rattle.names.specs.Names.{lookup}
 use Rattle.reading.specs.Reading.{Places, places_in, Held, State, start, find, add_input, add_output, each, Out, output_of, resolve}
 use Rattle.reading.proofs.Ended.{wire_at, resolved_wires, finish_yes}
 use Rattle.reading.proofs.States.{held_yes, outputs-yes}
-use Rattle.reading.proofs.Sound.{Wired, wires_out}
+use Rattle.reading.proofs.Sound.{Wired}
 use Rattle.values.specs.Values.{signal_value, outputs_from, evaluated}
 use Rattle.values.specs.Assignments.{input_count}
 use Rattle.cover.specs.declared.directives.Directive.{Directive}

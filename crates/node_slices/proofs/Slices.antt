@@ -19,7 +19,8 @@ use Rattle.circuit.specs.Refusals.{refuse_if, first_fault}
 use Rattle.circuit.specs.Records.{no_node, encode_node, nodes_of}
 use Rattle.circuit.specs.Check.{some_not_below, check_node, check_nodes, check_circuit, whole, nodes_in, wires_in, topological_fault}
 use Rattle.circuit.specs.declared.records.TheConstants.{NODE_WORDS, OUTPUT_WORDS}
-use Rattle.circuit.proofs.Codes.{Placed, node_wide, nodes_of_area}
+use Rattle.circuit.specs.Circuits.{Padded}
+use Rattle.circuit.proofs.Codes.{node_wide, nodes_of_area}
 use Rattle.node_slices.specs.Slices.{slice_fault}
 
 -- ---- the scan: what the nodes from i on give
@@ -61,7 +62,7 @@ unfolding slice_fault topological_fault whole
 slice_of_area nodes outputs e = rw (eq-eqb (length nodes % NODE_WORDS) 0 e)
 
 -- the check over a slice of nodes is the check over the area of their words
-pub slice_encoded : (ns : List BoolNode) (outputs : List ℕ) → ((k : ℕ) → k < length ns → Placed (get_or ns k no_node)) → slice_fault ns outputs ≡ topological_fault (encodes encode_node ns) outputs
+pub slice_encoded : (ns : List BoolNode) (outputs : List ℕ) → ((k : ℕ) → k < length ns → Padded (get_or ns k no_node)) → slice_fault ns outputs ≡ topological_fault (encodes encode_node ns) outputs
 slice_encoded ns outputs placed = ap (λ (l : List BoolNode). slice_fault l outputs) (sym back) ∙ slice_of_area (encodes encode_node ns) outputs whole_length
   where
     size : length (encodes encode_node ns) ≡ length ns * NODE_WORDS

@@ -10,14 +10,13 @@ use native.Mathlib.Omega.{arith}
 use lib.ListN.{length, length-append}
 use Rattle.laws.specs.Stretches.{same_bytes, All}
 use Rattle.laws.proofs.Stretches.{all_map}
-use Rattle.circuit.specs.declared.records.BoolWire.{BoolWire}
 use Rattle.circuit.specs.declared.records.BoolNode.{BoolNode}
 use Rattle.circuit.specs.declared.records.Output.{Output}
 use Rattle.circuit.specs.Refusals.{Try}
-use Rattle.circuit.specs.Check.{some_not_below, check_circuit}
-use Rattle.circuit.specs.Circuits.{Circuit}
+use Rattle.circuit.specs.Check.{some_not_below}
+use Rattle.circuit.specs.Circuits.{Circuit, KeepsRules}
 use Rattle.circuit.proofs.Tries.{yes_same, then_yes}
-use Rattle.circuit.proofs.Sitting.{Sits, AllSit, sit_more, circuit_checked, word_below, input_sits}
+use Rattle.circuit.proofs.Sitting.{each_padded, Sits, AllSit, sit_more, circuit_checked, word_below, input_sits}
 use Rattle.text.specs.Words.{bytes_of}
 use Rattle.text.specs.declared.words.Word.{Word}
 use Rattle.names.specs.Names.{Entry, name_of, lookup}
@@ -109,12 +108,11 @@ resolve_below m b t es (w ∷ ws) os h q =
     let below = word_below m x.0 (driver_below m b t w es x.0 h x.1) in
     rw (← yes_same r.2, below) (resolve_below m b t es ws r.0 h r.1)
 
--- the wires of a circuit's outputs
-abbrev pub wires_out : Circuit → List BoolWire
-wires_out c = map (λ (o : Output). o.wire) c.outputs
-
-pub finish-sound : (b : Bool) (t : List ℕ) (s : State) (c : Circuit) → HeldSound s.held → finish b t s ≡ Ok c → check_circuit c.nodes (wires_out c) ≡ Ok tt
+pub finish-sound : (b : Bool) (t : List ℕ) (s : State) (c : Circuit) → HeldSound s.held → finish b t s ≡ Ok c → KeepsRules c
 finish-sound b t s c h q =
     let e = finish_yes b t s c q in
-    subst (λ (x : Circuit). check_circuit x.nodes (wires_out x) ≡ Ok tt) e.2
-    (circuit_checked s.held.nodes (map (λ (o : Output). o.wire) (map output_of e.0)) h.nodes (resolve_below (length s.held.nodes) b t s.held.names s.outputs e.0 h.names e.1))
+    subst KeepsRules e.2
+    (record {
+      checked = circuit_checked s.held.nodes (map (λ (o : Output). o.wire) (map output_of e.0)) h.nodes (resolve_below (length s.held.nodes) b t s.held.names s.outputs e.0 h.names e.1);
+      padded = each_padded 0 s.held.nodes h.nodes;
+    })

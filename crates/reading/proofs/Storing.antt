@@ -13,7 +13,8 @@ use Rattle.laws.proofs.Storing.{more_list, more_clean}
 use Rattle.circuit.specs.declared.records.BoolNode.{BoolNode}
 use Rattle.circuit.specs.declared.records.TheConstants.{NODE_WORDS, OUTPUT_WORDS}
 use Rattle.circuit.specs.Records.{encode_node, nodes_of}
-use Rattle.circuit.proofs.Codes.{Placed, next_nodes, next_nodes_clean}
+use Rattle.circuit.specs.Circuits.{Padded}
+use Rattle.circuit.proofs.Codes.{next_nodes, next_nodes_clean}
 use Rattle.text.specs.declared.words.Word.{Word}
 use Rattle.reading.specs.Holding.{NodesHold, words_of, encode_word}
 
@@ -28,7 +29,7 @@ pub below_cap : (width words n : ℕ) → n < capacity width words → n < MOST_
 unfolding capacity
 below_cap width words n k = omega arith
 
-module _ (a b : List ℕ) (n : ℕ) (x : BoolNode) (fine : Placed x) (put : b ≡ stored a (n * NODE_WORDS) (encode_node x)) (same : length b ≡ length a) (room : n * NODE_WORDS + NODE_WORDS ≤ length a) (kept : NodesHold a n) where
+module _ (a b : List ℕ) (n : ℕ) (x : BoolNode) (fine : Padded x) (put : b ≡ stored a (n * NODE_WORDS) (encode_node x)) (same : length b ≡ length a) (room : n * NODE_WORDS + NODE_WORDS ≤ length a) (kept : NodesHold a n) where
   pub more_nodes : nodes_of b (n + 1) ≡ nodes_of a n ++ (x ∷ [])
   more_nodes = next_nodes a b n x fine put same kept.clean
 
