@@ -11,7 +11,7 @@ use Rattle.names.specs.Names.{name_of, lookup}
 use Rattle.names.specs.Chains.{bucket_of, key_of, entry, entries, name_at, link_of, link_place, link_at, reached, headed, linked, LinkFits, Table, Behind, EndsAt, Defined}
 use Rattle.names.specs.declared.records.TheConstants.{NAME_WORDS, LINKS_AT, START_AT, WIRE_AT, HALF_BITS, HALF, LINKS, WORD_LINKS}
 use Rattle.names.proofs.Links.{key_length}
-use Rattle.names.proofs.Searches.{none_named, digit_small, reached_at, after}
+use Rattle.names.proofs.Searches.{none_named, bucket_small, digit_small, reached_at, after}
 use Rattle.names.proofs.Defining.{HeadIs, LinkIs, head_more, link_more, once_more, there_more, alike_more}
 
 -- ---- the five words of a record, stored
@@ -110,13 +110,12 @@ headed_here heads b (suc k) n e l = absurd (omega arith)
 
 module _
     {text heads names : List ℕ}
-    {count b last digit key : ℕ}
+    {count last digit key : ℕ}
     (start len wire : ℕ)
     (ok : Table text heads names count)
     (fits : start + len ≤ length text)
     (room : count * NAME_WORDS + NAME_WORDS ≤ length names)
     (few : count + 1 < HALF)
-    (bucket : b ≡ bucket_of (stretch text start len))
     (key_is : key ≡ key_of (stretch text start len))
     (ends : EndsAt heads names (stretch text start len) last digit)
     (unknown : lookup text (stretch text start len) (entries names count) ≡ None)
@@ -129,10 +128,18 @@ module _
     end_is k q = go ends.depth ends.ended ends.behind
       where
         go : (d : ℕ) → reached heads names w d ≡ 0 → Behind (reached heads names w) w last digit d → (k < count) × (link_at names (k * NAME_WORDS) digit ≡ 0) × (digit < LINKS)
-        go zero z f = absurd (omega (arith, f, q))
+        go zero z f = absurd (omega (arith, f.0, q))
         go (suc d) z f =
             let r : reached heads names w d ≡ suc k = f.0 ∙ q in
             (reached_at ok w d k r, ap (link_at names (k * NAME_WORDS)) f.2 ∙ sym (after heads names w d k r) ∙ z, omega (arith, f.2, digit_small w d))
+
+    -- the head behind which it ended
+    end_head : last ≡ 0 → digit ≡ bucket_of w
+    end_head q = go ends.depth ends.behind
+      where
+        go : (d : ℕ) → Behind (reached heads names w) w last digit d → digit ≡ bucket_of w
+        go zero f = f.1
+        go (suc d) f = absurd (f.1 q)
 
     end_word : (k : ℕ) → last ≡ suc k → link_of (get_or names (link_place (k * NAME_WORDS) digit) 0) (digit % WORD_LINKS) ≡ 0
     end_word k q = unfold link_at in (end_is k q).1
@@ -141,7 +148,7 @@ module _
     link_room words = go last refl
       where
         go : (x : ℕ) → last ≡ x → LinkFits names x digit (count + 1)
-        go zero q = tt
+        go zero q = omega (arith, end_head q, bucket_small w)
         go (suc k) q =
             (omega (arith, (end_is k q).0, (end_is k q).2), link_fits (get_or names (link_place (k * NAME_WORDS) digit) 0) (count + 1) (digit % WORD_LINKS) (omega arith) (words (link_place (k * NAME_WORDS) digit)) (omega arith) (end_word k q))
 
@@ -155,7 +162,7 @@ module _
     names' = put set_names (count * NAME_WORDS) key start wire set_room
 
     abbrev heads' : List ℕ
-    heads' = headed heads b last (count + 1)
+    heads' = headed heads digit last (count + 1)
 
     old_word : (i : ℕ) → i < count * NAME_WORDS → get_or names' i 0 ≡ get_or set_names i 0
     old_word = put_old set_names (count * NAME_WORDS) key start wire set_room
@@ -207,14 +214,14 @@ module _
     more_list = ap₂ ◌∷◌ entry_new (entries_old count (le_refl count))
 
     head_is : (d : ℕ) → d < 256 → HeadIs heads heads' (bucket_of w) last count d
-    head_is d l = go (eqb last 0) refl (eqb d b) refl
+    head_is d l = go (eqb last 0) refl (eqb d digit) refl
       where
-        go : (t : Bool) → eqb last 0 ≡ t → (u : Bool) → eqb d b ≡ u → HeadIs heads heads' (bucket_of w) last count d
+        go : (t : Bool) → eqb last 0 ≡ t → (u : Bool) → eqb d digit ≡ u → HeadIs heads heads' (bucket_of w) last count d
         go true q true m =
-            let e : d ≡ b = eqb-true d b m in
-            inl (eqb-true last 0 q, e ∙ bucket, ap (λ (x : ℕ). get_or heads' x 0) e ∙ headed_here heads b last (count + 1) (eqb-true last 0 q) (omega (arith, ok.heads_sized, e)) ∙ add-one count)
-        go true q false m = inr (λ z e. eqb-false d b m (e ∙ sym bucket), headed_other heads b last (count + 1) d (λ z. eqb-false d b m))
-        go false q u m = inr (λ z e. eqb-false last 0 q z, headed_other heads b last (count + 1) d (λ z e. eqb-false last 0 q z))
+            let e : d ≡ digit = eqb-true d digit m in
+            inl (eqb-true last 0 q, e ∙ end_head (eqb-true last 0 q), ap (λ (x : ℕ). get_or heads' x 0) e ∙ headed_here heads digit last (count + 1) (eqb-true last 0 q) (omega (arith, ok.heads_sized, e)) ∙ add-one count)
+        go true q false m = inr (λ z e. eqb-false d digit m (e ∙ sym (end_head z)), headed_other heads digit last (count + 1) d (λ z. eqb-false d digit m))
+        go false q u m = inr (λ z e. eqb-false last 0 q z, headed_other heads digit last (count + 1) d (λ z e. eqb-false last 0 q z))
 
     link_is : (k x : ℕ) → k < count → x < LINKS → LinkIs names names' last digit count k x
     unfolding link_at
@@ -272,7 +279,7 @@ module _
         record {
           table = record {
             sized = ok.sized;
-            heads_sized = length-headed heads b last (count + 1) ∙ ok.heads_sized;
+            heads_sized = length-headed heads digit last (count + 1) ∙ ok.heads_sized;
             room = omega (arith, set_room, length_put set_names (count * NAME_WORDS) key start wire set_room);
             inside = in_text;
             keyed = keys;
@@ -285,7 +292,7 @@ module _
           list = ap (entries names') more ∙ more_list;
         }
 
-    pub define_leaves : {hs ns : List ℕ} → hs ≡ headed heads b last (count + 1) → ns ≡ linked names last digit (count + 1)
+    pub define_leaves : {hs ns : List ℕ} → hs ≡ headed heads digit last (count + 1) → ns ≡ linked names last digit (count + 1)
         → Defined text hs (put_mid (count * NAME_WORDS) (count * NAME_WORDS + NAME_WORDS - count * NAME_WORDS) ns (key ∷ 0 ∷ 0 ∷ start ∷ wire ∷ [])) (count + 1)
         (record { start = start; len = len; wire = wire }) (entries names count)
     define_leaves p q = rw (p, q) defined

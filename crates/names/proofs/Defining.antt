@@ -44,7 +44,7 @@ module _
     at_record k q = go ends.depth ends.ended ends.behind
       where
         go : (d : ℕ) → reached heads names w d ≡ 0 → Behind (reached heads names w) w last digit d → (d : ℕ) × (reached heads names w d ≡ suc k) × (digit ≡ digit_of w d) × (link_at names (k * NAME_WORDS) digit ≡ 0)
-        go zero z f = absurd (omega (arith, f, q))
+        go zero z f = absurd (omega (arith, f.0, q))
         go (suc d) z f =
             let r : reached heads names w d ≡ suc k = f.0 ∙ q in
             (d, r, f.2, ap (link_at names (k * NAME_WORDS)) f.2 ∙ sym (after heads names w d k r) ∙ z)
@@ -90,7 +90,7 @@ module _
         known (suc k) q d r nz e = then d k q r e
 
         go : (d : ℕ) → Behind (reached heads names w) w last digit d → (d : ℕ) × (reached heads' names' w d ≡ suc count)
-        go zero f = (0, first f)
+        go zero f = (0, first f.0)
         go (suc d) f = (suc d, known last refl d f.0 f.1 f.2)
 
     -- what a search comes to was there, or is the new record at the place where the search for its name ended

@@ -200,10 +200,10 @@ module _ {text heads names : List ℕ} {count : ℕ} (ok : Table text heads name
   deeper depth {at = zero} nz h = absurd (nz refl)
   deeper depth {at = suc k} nz h = omega (arith, depth_small ok w depth k (sym h), reached_at ok w depth k (sym h))
 
-  pub search_start : {b at : ℕ} → b ≡ bucket_of w → at ≡ get_or heads b 0 → Searched text heads names count w at 0 0 0
+  pub search_start : {b at : ℕ} → b ≡ bucket_of w → at ≡ get_or heads b 0 → Searched text heads names count w at 0 0 b
   search_start p q =
       let h = first_at p q in
-      record { here = h; within = omega (arith, h, within_count 0); deep = omega arith; behind = refl; others = λ e j l. absurd (omega arith) }
+      record { here = h; within = omega (arith, h, within_count 0); deep = omega arith; behind = (refl, p); others = λ e j l. absurd (omega arith) }
 
   pub search_next : (depth : ℕ) {at x at' last digit : ℕ} → (at ≡ 0 → ⊥) → Searched text heads names count w at depth last digit → same_bytes (name_at text names (at - 1)) w ≡ false
       → x ≡ digit_of w depth → at' ≡ link_at names ((at - 1) * NAME_WORDS) x → Searched text heads names count w at' (depth + 1) at x

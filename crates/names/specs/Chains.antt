@@ -127,22 +127,21 @@ pub record Table (text heads names : List ℕ) (count : ℕ) : Type 0 where
 
 -- where a search ends: in front of it a head, or a record and one of its links
 abbrev pub Behind : (ℕ → ℕ) → List ℕ → ℕ → ℕ → ℕ → Type 0
-Behind at w last digit zero = last ≡ 0
-Behind at w last digit (suc d) = (at d ≡ last) × (last ≢ 0) × (digit ≡ digit_of w d)
+Behind at w last branch zero = (last ≡ 0) × (branch ≡ bucket_of w)
+Behind at w last branch (suc d) = (at d ≡ last) × (last ≢ 0) × (branch ≡ digit_of w d)
 
--- the search for a name is at its end, behind record number `last` - 1 and its link `digit`; where `last` is 0, behind a head
-pub record EndsAt (heads names : List ℕ) (w : List ℕ) (last digit : ℕ) : Type 0 where
+-- the search for a name is at its end, behind link `branch` of record number `last` - 1; where `last` is 0, behind head `branch`
+pub record EndsAt (heads names : List ℕ) (w : List ℕ) (last branch : ℕ) : Type 0 where
   pub depth : ℕ
   pub ended : reached heads names w depth ≡ 0
-  pub behind : Behind (reached heads names w) w last digit depth
+  pub behind : Behind (reached heads names w) w last branch depth
 
 -- a name that no record has, and where the search for it ended
 pub record IsNew (text heads names : List ℕ) (count : ℕ) (n : NewName) : Type 0 where
   pub inside : n.word.start + n.word.len ≤ length text
   pub unknown : lookup text (bytes_of text n.word) (entries names count) ≡ None
-  pub bucket : n.hash.bucket ≡ bucket_of (bytes_of text n.word)
-  pub key : n.hash.key ≡ key_of (bytes_of text n.word)
-  pub ends : EndsAt heads names (bytes_of text n.word) n.last n.digit
+  pub key : n.key ≡ key_of (bytes_of text n.word)
+  pub ends : EndsAt heads names (bytes_of text n.word) n.last n.branch
 
 -- what a search for a word answers: the wire that is known for it; if none is, the word as a new name
 abbrev pub SearchIs : Option ℕ → List ℕ → List ℕ → List ℕ → ℕ → Word → Result ℕ NewName → Type 0
@@ -163,7 +162,7 @@ linked names (suc k) digit n =
 
 -- there is room for that
 abbrev pub LinkFits : List ℕ → ℕ → ℕ → ℕ → Type 0
-LinkFits names zero digit n = Unit
+LinkFits names zero branch n = branch < 256
 LinkFits names (suc k) digit n =
     let at = link_place (k * NAME_WORDS) digit in
     (at < length names) × (slice_index names at + n * 2 ^ (digit % WORD_LINKS * HALF_BITS) < 2 ^ 64)

@@ -60,25 +60,25 @@ impl<'a> NameTable<'a> {
             SearchIs known t self.now.heads.now self.now.names.now self.now.count word result }
     {
         let hash = hash_of(self.text, word);
-        let mut at = self.heads[usize::from(hash.bucket)];
+        let mut branch = usize::from(hash.bucket);
+        let mut at = self.heads[branch];
         let mut depth = 0;
         let mut last = 0;
-        let mut chosen = 0;
         // Along the links, whose end no count tells before.
         while at != 0 {
             if self.has_name(word, hash.key, at - 1) {
                 return Ok(self.names[(at - 1) * NAME_WORDS + WIRE_AT]);
             }
             last = at;
-            chosen = digit(self.text, word, hash.key, depth);
-            at = link(self.names, (at - 1) * NAME_WORDS, chosen);
+            branch = digit(self.text, word, hash.key, depth);
+            at = link(self.names, (at - 1) * NAME_WORDS, branch);
             depth += 1;
         }
         Err(NewName {
             word,
-            hash,
+            key: hash.key,
             last,
-            digit: chosen,
+            branch,
         })
     }
 
@@ -110,5 +110,5 @@ pub fn define(
 {
     name.set_link(count + 1, heads, names);
     let at = count * NAME_WORDS;
-    names[at..at + NAME_WORDS].copy_from_slice(&[name.hash.key, 0, 0, name.word.start, wire]);
+    names[at..at + NAME_WORDS].copy_from_slice(&[name.key, 0, 0, name.word.start, wire]);
 }

@@ -6,7 +6,7 @@ use Rattle.names.proofs.NameTable.search.Goals as goal
 pub loop-at-init : goal.loop-at-init
 loop-at-init c =
     let t = c.args.self.now in
-    search_start t.in_order (bytes_of t.text.now c.args.word) (c.from.ensures ∙ c.hash_of-hash.ensures.bucket_value) refl
+    search_start t.in_order (bytes_of t.text.now c.args.word) (c.from-branch.ensures ∙ c.hash_of-hash.ensures.bucket_value) refl
 
 pub returns-then-has_name : goal.returns-then-has_name
 returns-then-has_name c =
@@ -17,13 +17,13 @@ pub loop-at-smaller : goal.loop-at-smaller
 loop-at-smaller c =
     let t = c.args.self.now in
     let w = bytes_of t.text.now c.args.word in
-    less t.in_order w c.loop-at.depth c.loop-at-test.true c.loop-at.invariant.here (next_at t.in_order w c.loop-at.depth c.loop-at-test.true c.loop-at.invariant.here c.digit-chosen.ensures.0 c.link-at.ensures)
+    less t.in_order w c.loop-at.depth c.loop-at-test.true c.loop-at.invariant.here (next_at t.in_order w c.loop-at.depth c.loop-at-test.true c.loop-at.invariant.here c.digit-branch.ensures.0 c.link-at.ensures)
 
 pub loop-at-preserved : goal.loop-at-preserved
 loop-at-preserved c =
     let t = c.args.self.now in
     let other = sym c.has_name.ensures ∙ c.if-has_name.false in
-    search_next t.in_order (bytes_of t.text.now c.args.word) c.loop-at.depth c.loop-at-test.true c.loop-at.invariant other c.digit-chosen.ensures.0 c.link-at.ensures
+    search_next t.in_order (bytes_of t.text.now c.args.word) c.loop-at.depth c.loop-at-test.true c.loop-at.invariant other c.digit-branch.ensures.0 c.link-at.ensures
 
 pub returns : goal.returns
 returns c =
@@ -35,7 +35,6 @@ returns c =
       record {
         inside = c.requires.word_in_text;
         unknown = none;
-        bucket = c.hash_of-hash.ensures.bucket_value;
         key = c.hash_of-hash.ensures.key_value;
         ends = record { depth = c.loop-at.depth; ended = ended; behind = c.loop-at.invariant.behind };
       },
