@@ -4,6 +4,7 @@
 #![tactic(auto)]
 
 ghost use Rattle.std.specs.Prelude.{◌≤◌, ◌<◌, length, IfSome};
+ghost use Rattle.lines_replay.specs.declared.TheConstants.{TEXT_END};
 
 use printing::input::read_full;
 use printing::rooms::room;
@@ -12,17 +13,24 @@ use std::io;
 use std::rt::Files;
 use text::joining::logical_lines;
 
+/// The length of a text has one byte: it is below this.
+pub const TEXT_END: usize = 256;
+
+/// The bytes of a recorded file at most.
+pub const RECORDED: usize = 65_536;
+
+// Whether the joined text of a text is the answer.
 fn joins_to(text: &[u8], answer: &[u8]) -> bool
-    requires { length text.now < 257 }
+    requires { length text.now < TEXT_END }
 {
-    let mut joined = [0u8; 257];
+    let mut joined = [0u8; TEXT_END];
     let n = logical_lines(text, &mut joined);
     &joined[..n] == answer
 }
 
 // Bytes after their length in a byte, and what follows them; none if the data ends first.
 fn split_counted(recorded: &[u8]) -> Option<(&[u8], &[u8])>
-    ensures { IfSome result (λ parts. (length parts.0.now < 256) × (length parts.1.now < length recorded.now)) }
+    ensures { IfSome result (λ parts. (length parts.0.now < TEXT_END) × (length parts.1.now < length recorded.now)) }
 {
     let (&len, rest) = recorded.split_first()?;
     rest.split_at_checked(usize::from(len))
@@ -53,7 +61,7 @@ fn replay_file(rt: &(impl Files + Print)) -> io::Result<()> {
     let Ok(mut file) = File::open(rt, "joined_lines") else {
         return Ok(());
     };
-    let mut recorded: [u8; 65536] = room();
+    let mut recorded: [u8; RECORDED] = room();
     let n = read_full(&mut file, &mut recorded)?;
     replay(rt, &recorded[..n])
 }

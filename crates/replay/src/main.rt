@@ -4,6 +4,7 @@
 #![tactic(auto)]
 
 ghost use Rattle.std.specs.Prelude.{◌≡◌, ◌<◌, length, IfSome, IsTrue};
+ghost use Rattle.replay.specs.declared.TheConstants.{RECORDED_END};
 
 use crate::longest::print_longest;
 use arrayvec::ArrayVec;
@@ -18,11 +19,14 @@ use std::rt::Files;
 
 mod longest;
 
+/// The lengths of a text and of its answer have two bytes: they are below this, and so is the length of a file.
+pub const RECORDED_END: usize = 65_536;
+
 // Whether a text is listed as recorded.
 fn lists<L: Listed>(text: &[u8], answer: &[u8]) -> bool
     ensures { IsTrue result → L.printed text.now ≡ answer.now }
 {
-    let mut out: ArrayVec<u8, 65536> = ArrayVec::new();
+    let mut out: ArrayVec<u8, RECORDED_END> = ArrayVec::new();
     L::list(&mut out, text).is_ok() && out.as_slice() == answer
 }
 
@@ -36,7 +40,7 @@ struct Record<'a> {
 
 // A number of two bytes, the higher first.
 fn pair(high: u8, low: u8) -> usize
-    ensures { result < 65536 }
+    ensures { result < RECORDED_END }
 {
     usize::from(u16::from_be_bytes([high, low]))
 }
@@ -82,7 +86,7 @@ fn replay_file<L: Listed>(rt: &(impl Files + Print), name: &str) -> io::Result<(
     let Ok(mut file) = File::open(rt, name) else {
         return Ok(());
     };
-    let mut recorded: [u8; 65536] = room();
+    let mut recorded: [u8; RECORDED_END] = room();
     let n = read_full(&mut file, &mut recorded)?;
     let Counts { records, same } = replay::<L>(&recorded[..n]);
     println!(rt; "{name}: {records} records, {same} the same")
