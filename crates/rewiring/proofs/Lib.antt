@@ -1,0 +1,10 @@
+pub mod Wires
+pub mod NodeValues
+pub mod Rewired
+pub mod Accepted
+pub mod Cells
+pub mod Listed
+pub mod Kept
+pub mod Beside
+pub mod Bypass
+pub mod Examples

@@ -1,0 +1,3 @@
+pub mod Rewiring
+pub mod Beside
+pub mod Bypass
