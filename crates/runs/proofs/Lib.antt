@@ -6,3 +6,4 @@ pub mod Stepping
 pub mod InputValues
 pub mod Along
 pub mod Calls
+pub mod Examples

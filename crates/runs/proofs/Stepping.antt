@@ -1,20 +1,14 @@
 -- The steps along a list, an entry at a time.
 -- Assumes nothing.
-use Rattle.std.proofs.Common.{ℕ, ◌+◌, ◌<◌, ◌≤◌, ◌≡◌, List, ◌∷◌, length, drop, get_or, set, sym, ap, ◌∙◌, subst, add-one}
+use Rattle.std.proofs.Common.{ℕ, ◌+◌, ◌<◌, ◌≤◌, ◌≡◌, List, ◌∷◌, length, drop, get_or, sym, ap, ◌∙◌, subst, add-one}
 use lib.ListN.{drop_of_length-le}
 use Rattle.std.proofs.Math.Seq.{drop-cons}
 use Rattle.std.proofs.Math.ListN.{length-set}
 use Rattle.circuit.specs.declared.records.BoolNode.{BoolNode}
 use Rattle.circuit.specs.Records.{node_at, nodes_of}
-use Rattle.circuit.proofs.Codes.{node_of}
-use Rattle.values.specs.Values.{answer_of}
 use Rattle.runs.specs.Runs.{step, steps}
 use Rattle.values.specs.Inner.{SoundCell}
 use Rattle.runs.specs.Inner.{SoundCells}
-
-pub stored : (a : List ℕ) (m x : ℕ) (values : List ℕ) (r : ℕ) → x < m → r ≡ answer_of values (node_at a x) → set values x r ≡ step (nodes_of a m) values x
-unfolding step
-stored a m x values r h e = ap (set values x) (e ∙ sym (ap (answer_of values) (node_of a m x h)))
 
 pub step_length : (ns : List BoolNode) (values : List ℕ) (x : ℕ) → length (step ns values x) ≡ length values
 unfolding step

@@ -15,8 +15,11 @@ use circuit::records::{BoolWire, wire_count};
 /// The marks in one word.
 const WORD_MARKS: usize = 64;
 
-/// The words of marks: one pass over the list for 524,288 nodes, two for the most that a circuit may have.
-const MARK_WORDS: usize = 8192;
+/// The words of marks for a circuit of up to 4,096 nodes: to clear more would take longer than the rest of its run.
+const FEW_WORDS: usize = 64;
+
+/// The words of marks for a larger one: a pass over the list for each 524,288 nodes.
+const MANY_WORDS: usize = 8192;
 
 /// Nodes that the circuit check accepts.
 #[derive(Clone, Copy)]
@@ -111,8 +114,10 @@ pub fn take_entries(
 }
 
 /// One pass over the list, with marks for the nodes from `lo` on.
+// Not inlined: in the exported call the loop would have too few registers.
+#[inline(never)]
 fn fit_block<const N: usize>(checked: CheckedNodes, order: &[usize], lo: usize) -> Option<()>
-    requires { N ≤ MARK_WORDS }
+    requires { N ≤ MANY_WORDS }
     ensures { is_some result ≡ fit_here checked.entry.nodes.words.now checked.entry.nodes.count lo (N * WORD_MARKS) order.now }
 {
     let mut marks = [0; N];
@@ -121,7 +126,7 @@ fn fit_block<const N: usize>(checked: CheckedNodes, order: &[usize], lo: usize) 
 
 /// A pass for each block of so many words of marks.
 fn fit_blocks<const N: usize>(checked: CheckedNodes, order: &[usize]) -> Option<()>
-    requires { (length order.now ≤ checked.nodes.count) × (0 < N) × (N ≤ MARK_WORDS) }
+    requires { (length order.now ≤ checked.nodes.count) × (0 < N) × (N ≤ MANY_WORDS) }
     ensures { is_some result ≡ fit (graph_of (nodes_of checked.entry.nodes.words.now checked.entry.nodes.count)) [] order.now }
 {
     for lo in (0..checked.nodes.count).step_by(N * WORD_MARKS) {
@@ -130,11 +135,22 @@ fn fit_blocks<const N: usize>(checked: CheckedNodes, order: &[usize]) -> Option<
     Some(())
 }
 
+/// Each entry of the list is a cell, after the cells that it reads, and none stands twice.
+pub fn fit_marked(checked: CheckedNodes, order: &[usize]) -> Option<()>
+    requires { length order.now ≤ checked.nodes.count }
+    ensures { is_some result ≡ fit (graph_of (nodes_of checked.entry.nodes.words.now checked.entry.nodes.count)) [] order.now }
+{
+    if checked.nodes.count <= FEW_WORDS * WORD_MARKS {
+        fit_blocks::<FEW_WORDS>(checked, order)
+    } else {
+        fit_blocks::<MANY_WORDS>(checked, order)
+    }
+}
+
 /// The list has each cell once, after the cells that it reads. The circuit has so many inputs.
 pub fn fit_list(checked: CheckedNodes, inputs: usize, order: &[usize]) -> bool
     requires { inputs ≡ input_count (nodes_of checked.nodes.words.now checked.nodes.count) }
     ensures { result ≡ fit_list (graph_of (nodes_of checked.entry.nodes.words.now checked.entry.nodes.count)) order.now }
 {
-    order.len() == checked.nodes.count - inputs
-        && fit_blocks::<MARK_WORDS>(checked, order).is_some()
+    order.len() == checked.nodes.count - inputs && fit_marked(checked, order).is_some()
 }

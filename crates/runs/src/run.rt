@@ -39,6 +39,7 @@ pub fn run_fault(
 }
 
 /// The inputs put in, then a step for each entry of the list.
+#[tactic(auto, unfolding(crate::specs::Runs::run_store))]
 pub fn run_store(nodes: Nodes, order: &[usize], assignment: &[u8], values: &mut [u8])
     requires stored { nodes.count ≤ length values.old }
     requires one_each { length assignment.now ≡ input_count (nodes_of nodes.words.now nodes.count) }
@@ -50,6 +51,7 @@ pub fn run_store(nodes: Nodes, order: &[usize], assignment: &[u8], values: &mut 
 }
 
 /// The outputs of a run along the list, in front of `answers`.
+#[tactic(auto, unfolding(crate::specs::Runs::run_outputs))]
 pub fn run_outputs(
     nodes: Nodes,
     outputs: Outputs,

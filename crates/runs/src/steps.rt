@@ -9,6 +9,7 @@ use circuit::nodes::Nodes;
 use values::cell::answer;
 
 /// One entry of a list: the answer of cell x, on what stands in the store, is stored at its place. No other value changes.
+#[tactic(auto, unfolding(crate::specs::Runs::step), using(circuit::proofs::Codes::node_of))]
 pub fn step(nodes: Nodes, x: usize, values: &mut [u8])
     requires inside { (x < nodes.count) × (x < length values.old) }
     requires sound { SoundCell (length values.old) (node_at nodes.words.now x) }

@@ -9,3 +9,4 @@ pub mod Valued
 pub mod Calls
 pub mod Evaluating
 pub mod CellNodes
+pub mod Examples
