@@ -7,7 +7,7 @@ use Rattle.laws.specs.Bits.{set_bit}
 use Rattle.laws.specs.Lists.{numbers}
 use Rattle.laws.specs.Stretches.{stretch, run, same_bytes}
 use Rattle.laws.specs.Sums.{sum}
-use Rattle.circuit.specs.Records.{is_cell_node, wires_of, no_node}
+use Rattle.circuit.specs.Records.{places as wire_places, node_from, input_node, cell_node, encode_node, is_cell_node, wires_of, no_node}
 use Rattle.circuit.specs.Check.{cell_broken, record_broken, check_wires, check_node, check_nodes, check_circuit, node_broken, circuit_broken, whole, topological_fault, records_fault}
 use Rattle.circuit.specs.Graph.{nodes_read, vertex_of, graph_of}
 use Rattle.graphs.specs.Graph.{outside, is_cell, reads_of, cells_of, waits, free, ready, ready_cells, fit, fit_list}
@@ -35,21 +35,23 @@ use Rattle.bristol.specs.Bristol.{drive, store_cell, store, row_step, rows, outp
 use Rattle.ordering.specs.Schedule.{key_at, above, best, pick, next, schedule_from, schedule_of}
 use Rattle.schedule.specs.Call.{graph_in, order_in, room, call_fault, circle_fault, schedule_fault, schedule_call}
 use Rattle.ordering.specs.Promises.{leaves_out}
-use Rattle.runs.specs.Values.{answer_of, values_from, outputs_from, storage_values, storage_outputs}
-use Rattle.runs.specs.Runs.{put_in, step, steps, run_store, run_outputs, input_count, wrong_assignment}
-use Rattle.runs.specs.Calls.{assignment_fault, order_fault, room_fault, run_fault, leaves, run_call}
+use Rattle.values.specs.Values.{answer_of, values_from, outputs_from, storage_values, storage_outputs}
+use Rattle.values.specs.Assignments.{input_count, wrong_assignment}
+use Rattle.values.specs.Calls.{assignment_fault, room_fault, after_call}
+use Rattle.runs.specs.Runs.{put_in, step, steps, run_store, run_outputs}
+use Rattle.runs.specs.Calls.{order_fault, run_fault, run_call}
 use Rattle.listing.specs.Decimal.{digits_below, decimal}
 use Rattle.listing.specs.Listing.{words as spaced, node_head, input_line, cell_line, node_line, node_lines, output_line, output_lines, count_line, order_line, listing, keys_from}
 use Rattle.starred.specs.Starred.{agree, sample, starred}
 
 pub starred-agree : agree starred ≡ true
-unfolding starred sample
+unfolding starred sample wire_places node_from input_node cell_node encode_node
     read_text bytes_fault text_fault is_ascii capacity joined_text logical_lines joined_from gather part continued all_but_last kept_lines kept_of kept uncommented trim trim_start trim_end is_blank raw_lines ended
     blif_lines read_lines lines places line_step row_next directive_step directive_of directive rows_of words each add_input add_output add_named add_node add_name add_alias names_line plan input_names last_of drivers covered gate find lookup finish resolve closed
     cover constant rows_table set_rows with_row row_of row_with bit_of set_row set_from matches fits start_table set_bit same_bytes stretch
     bench_lines read_line benchLine gate_line gate_of gate_invoked declaration_line declared_in declare declaration_of parse_invocation invocation arguments_of none_empty parts up_to_last trimmed run operation_of binary_of upper input_wires lower_gate chained chain
     bristol_circuit circuit body start lastWires rows row_step store store_cell drive row row_wires row_output rowDrivers operation truth_table two_input_table inverts is_alias header two_numbers group_lines groups grouped_wire_count each_number number parse_each parse_usize digits digits_from value_from all_digits split_whitespace sum
     schedule_call schedule_fault call_fault circle_fault room leaves_out graph_in order_in schedule_of schedule_from next pick best above key_at graph_of vertex_of nodes_read outside is_cell reads_of waits free ready ready_cells cells_of numbers records_fault whole circuit_broken node_broken record_broken cell_broken wires_of is_cell_node
-    run_call leaves run_fault assignment_fault order_fault room_fault wrong_assignment input_count topological_fault check_circuit check_nodes check_node check_wires fit fit_list run_outputs run_store steps step put_in answer_of outputs_from no_node storage_outputs storage_values values_from
+    run_call after_call run_fault assignment_fault order_fault room_fault wrong_assignment input_count topological_fault check_circuit check_nodes check_node check_wires fit fit_list run_outputs run_store steps step put_in answer_of outputs_from no_node storage_outputs storage_values values_from
     digits_below decimal spaced node_head input_line cell_line node_line node_lines output_line output_lines count_line order_line listing keys_from
 starred-agree = refl

@@ -1,6 +1,6 @@
 -- The starred examples of 01 as one table: what the definitions give, and what 01 says.
 -- Assumes nothing.
-use Rattle.std.specs.Prelude.{ℕ, ◌*◌, Bool, true, ◌&&◌, List, [], ◌∷◌, ◌++◌, map, length, take, replicate, Err, Ok}
+use Rattle.std.specs.Prelude.{ℕ, ◌+◌, ◌*◌, Bool, true, ◌&&◌, List, [], ◌∷◌, ◌++◌, map, length, take, replicate, Err, Ok}
 use Prim.Native.String.{String}
 use Rattle.laws.specs.Stretches.{same_bytes}
 use Rattle.circuit.specs.declared.records.BoolNode.{BoolNode}
@@ -15,9 +15,10 @@ use Rattle.blif.specs.Blif.{blif}
 use Rattle.bench.specs.Bench.{bench}
 use Rattle.bristol.specs.Bristol.{bristol_circuit}
 use Rattle.schedule.specs.Call.{Left, ordered_cells, schedule_call}
-use Rattle.runs.specs.Values.{storage_outputs}
+use Rattle.values.specs.Values.{storage_outputs}
 use Rattle.runs.specs.Calls.{run_call}
-use Rattle.listing.specs.declared.TheConstants.{LISTED}
+use Rattle.circuit.specs.declared.records.TheConstants.{NODE_WORDS, OUTPUT_WORDS}
+use Rattle.listing.specs.declared.TheConstants.{LISTED, LISTED_TEXT}
 use Rattle.listing.specs.Ascii.{ascii}
 use Rattle.listing.specs.Listing.{keys_from, listing}
 
@@ -25,13 +26,13 @@ use Rattle.listing.specs.Listing.{keys_from, listing}
 
 -- the circuit of a text, "with places for 1,024 nodes, names, outputs and wires each"
 abbrev pub from_blif : String → Try Circuit
-from_blif s = blif (ascii s) 32769 9216 (LISTED * NAME_WORDS) 5120
+from_blif s = blif (ascii s) (LISTED_TEXT + 1) (LISTED * NODE_WORDS) (LISTED * NAME_WORDS) (LISTED * OUTPUT_WORDS)
 
 abbrev pub from_bench : String → Try Circuit
-from_bench s = bench (ascii s) 32769 9216 (LISTED * NAME_WORDS) 5120
+from_bench s = bench (ascii s) (LISTED_TEXT + 1) (LISTED * NODE_WORDS) (LISTED * NAME_WORDS) (LISTED * OUTPUT_WORDS)
 
 abbrev pub from_bristol : String → Try Circuit
-from_bristol s = bristol_circuit (ascii s) 9216 5120 LISTED
+from_bristol s = bristol_circuit (ascii s) (LISTED * NODE_WORDS) (LISTED * OUTPUT_WORDS) LISTED
 
 -- the circuit's parts; none where the text is refused
 abbrev pub nodes_of : Try Circuit → List BoolNode
