@@ -11,7 +11,8 @@ use Rattle.reading.specs.Areas.{Leaves}
 use Rattle.bristol.specs.Bristol as bristol
 use Rattle.bristol.specs.Promises as bristolContracts
 use Rattle.schedule.specs.Call as schedule
-use Rattle.runs.specs.Calls.{call_result, numbered_result}
+use Rattle.values.specs.Calls.{call_result}
+use Rattle.numbered.specs.Numbered.{numbered_result}
 use Rattle.relay.specs.Answers.{read_nodes, read_outputs, ReadGives, JoinedCall, BristolCall, count_of, CountGives, OrderCall, result_of, assigned}
 
 gives_same : (a b : Try Sizes) (number n m : ℕ) → a ≡ b → ReadGives a number n m → ReadGives b number n m

@@ -8,7 +8,8 @@ use Rattle.reading.specs.Areas.{Leaves}
 use Rattle.bristol.specs.Bristol as bristol
 use Rattle.bristol.specs.Promises as bristol_promises
 use Rattle.schedule.specs.Call as schedule
-use Rattle.runs.specs.Calls.{Result, Assigned}
+use Rattle.values.specs.Calls.{CallResult}
+use Rattle.numbered.specs.Numbered.{Assigned}
 
 -- ---- the readers
 
@@ -55,7 +56,7 @@ pub record OrderCall (left : schedule.Left) (number cells : ℕ) (ready successo
 
 -- ---- the runs
 
-abbrev pub result_of : ℕ → ℕ → List ℕ → List ℕ → Result
+abbrev pub result_of : ℕ → ℕ → List ℕ → List ℕ → CallResult
 result_of number count values answers = record { number = number; count = count; store = values; outputs = answers }
 
 abbrev pub assigned : ℕ → ℕ → List ℕ → Assigned

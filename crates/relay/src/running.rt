@@ -1,12 +1,14 @@
 // What a circuit gives.
 ghost use Rattle.std.specs.Prelude.{◌≡◌};
-ghost use Rattle.runs.specs.Calls.{evaluate_call, run_call, exhaustive_call};
+ghost use Rattle.values.specs.Calls.{evaluate_call};
+ghost use Rattle.runs.specs.Calls.{run_call};
+ghost use Rattle.numbered.specs.Numbered.{exhaustive_call};
 ghost use Rattle.relay.specs.Answers.{result_of, assigned};
 
 use crate::answers::answer_counted;
-use runs::evaluate::evaluate;
-use runs::numbered::exhaustive_inputs;
+use numbered::exhaustive_inputs;
 use runs::run::run;
+use values::evaluate::evaluate;
 
 // The outputs for one assignment of 0 and 1; the values are a work area.
 #[unsafe(no_mangle)]
