@@ -1,6 +1,6 @@
 -- The laws of the circuit check: a node's wires, the scans of wires and nodes, and what a check's answer tells.
 -- Assumes nothing.
-use Rattle.std.specs.Prelude.{Err, Ok}
+use Rattle.std.specs.Prelude.{cond, Err, Ok}
 use mathlib.Core.Path.{◌≡◌, refl, sym, ap, ap₂, ◌∙◌, subst}
 use mathlib.Core.List.{List, [], ◌∷◌}
 use mathlib.Core.Bool.{Bool, true, false, ◌||◌}
@@ -23,7 +23,7 @@ use Rattle.circuit.specs.declared.records.BoolNode.{BoolNode}
 use Rattle.circuit.specs.Refusals.{refuse_if, first_fault}
 use Rattle.circuit.specs.Records.{no_wire, no_node, node_at, nodes_of, is_cell_node, places, wires_of}
 use Rattle.circuit.specs.declared.records.TheConstants.{CELL, NODE_WORDS, OUTPUT_WORDS}
-use Rattle.circuit.specs.Check.{record_broken, not_below, some_not_below, check_wires, check_node, check_nodes, check_circuit, some_broken, circuit_broken, whole, nodes_in, wires_in, topological_fault, records_fault}
+use Rattle.circuit.specs.Check.{record_broken, not_below, some_not_below, wire_refusal, check_wires, check_node, check_nodes, check_circuit, some_broken, circuit_broken, whole, nodes_in, wires_in, topological_fault, records_fault}
 use Rattle.circuit.proofs.Codes.{length_nodes}
 
 -- ---- the first fault of two checks
@@ -50,24 +50,29 @@ module _ (n : BoolNode) where
   unfolding wires_of is_cell_node
   no-wires e = rw (ne_eqb n.kind CELL e)
 
+-- a wire below k is below what is not less
+pub below_more : (k m : ℕ) → k ≤ m → (w : BoolWire) → not_below k w ≡ false → not_below m w ≡ false
+below_more k m h (Const b) e = refl
+below_more k m h (Node n) e = lt-leb m n.0 (omega (arith, leb-false k n.0 e))
+
 -- ---- the scan of a node's wires
 
-module _ (m i : ℕ) (ws : List BoolWire) (k : ℕ) where
-  pub wire_outside : k < length ws → not_below m (get_or ws k no_wire) ≡ true → check_wires m i (drop k ws) ≡ Err Broken
+module _ (m i : ℕ) (inside : i ≤ m) (ws : List BoolWire) (k : ℕ) where
+  pub wire_late : k < length ws → not_below i (get_or ws k no_wire) ≡ true → check_wires m i (drop k ws) ≡ Err (wire_refusal m (get_or ws k no_wire))
   unfolding check_wires
-  wire_outside h e = rw (drop-cons ws k no_wire h, e)
+  wire_late h e = rw (drop-cons ws k no_wire h, e) (go (not_below m (get_or ws k no_wire)))
+    where
+      go : (t : Bool) → ◌≡◌ {A = Checked} (cond t (Err Broken) (Err NotEarlier)) (Err (cond t Broken NotEarlier))
+      go true = refl
+      go false = refl
 
-  pub wire_ahead : k < length ws → not_below m (get_or ws k no_wire) ≡ false → not_below i (get_or ws k no_wire) ≡ true → check_wires m i (drop k ws) ≡ Err NotEarlier
+  pub wire_passed : k < length ws → not_below i (get_or ws k no_wire) ≡ false → check_wires m i (drop k ws) ≡ check_wires m i (drop (k + 1) ws)
   unfolding check_wires
-  wire_ahead h e f = rw (drop-cons ws k no_wire h, e, f)
+  wire_passed h e = rw (drop-cons ws k no_wire h, below_more i m inside (get_or ws k no_wire) e, e, add-one k)
 
-  pub wire_passed : k < length ws → not_below m (get_or ws k no_wire) ≡ false → not_below i (get_or ws k no_wire) ≡ false → check_wires m i (drop k ws) ≡ check_wires m i (drop (k + 1) ws)
-  unfolding check_wires
-  wire_passed h e f = rw (drop-cons ws k no_wire h, e, f, add-one k)
-
-  pub wires_passed : length ws ≤ k → check_wires m i (drop k ws) ≡ Ok tt
-  unfolding check_wires
-  wires_passed h = rw (drop_of_length-le ws h)
+pub wires_passed : (m i : ℕ) (ws : List BoolWire) (k : ℕ) → length ws ≤ k → check_wires m i (drop k ws) ≡ Ok tt
+unfolding check_wires
+wires_passed m i ws k h = rw (drop_of_length-le ws h)
 
 -- ---- the record, then the wires
 
@@ -132,11 +137,6 @@ module _ (nodes outputs : List ℕ) where
   records_whole e = rw (e, length_nodes nodes (length nodes / NODE_WORDS))
 
 -- ---- what the check's acceptance tells
-
--- a wire below k is below what is not less
-pub below_more : (k m : ℕ) → k ≤ m → (w : BoolWire) → not_below k w ≡ false → not_below m w ≡ false
-below_more k m h (Const b) e = refl
-below_more k m h (Node n) e = lt-leb m n.0 (omega (arith, leb-false k n.0 e))
 
 pub all_below_more : (k m : ℕ) → k ≤ m → (ws : List BoolWire) → some_not_below k ws ≡ false → some_not_below m ws ≡ false
 all_below_more k m h = none_narrower (not_below k) (not_below m) (below_more k m h)

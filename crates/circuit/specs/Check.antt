@@ -2,6 +2,7 @@
 -- Assumes nothing.
 use Rattle.std.specs.Prelude.{List, [], ◌∷◌, Bool, true, false, if◌then◌else◌, not, ◌&&◌, ◌||◌, ℕ, suc, ◌^◌, ◌/◌, ◌%◌, ◌==◌, leb, length, Err, Ok}
 use Rattle.laws.specs.Lists.{some}
+use Rattle.circuit.specs.declared.refusals.Refusal.{Refusal}
 use Rattle.circuit.specs.declared.refusals.Refusal.TheVariants.{Broken, NotEarlier}
 use Rattle.circuit.specs.Refusals.{Checked}
 use Rattle.circuit.specs.declared.records.BoolWire.{BoolWire}
@@ -28,6 +29,10 @@ not_below k (Node n) = leb k n.0
 -- Some wire is.
 abbrev pub some_not_below : ℕ → List BoolWire → Bool
 some_not_below k ws = some (not_below k) ws
+
+-- What a wire that is not earlier is refused with, in a circuit of m nodes.
+abbrev pub wire_refusal : ℕ → BoolWire → Refusal
+wire_refusal m w = if not_below m w then Broken else NotEarlier
 
 -- The wires of node i of m in turn: the first that is no earlier node's is the fault, Broken where it is no node's of the circuit at all.
 unfoldable pub check_wires : ℕ → ℕ → List BoolWire → Checked

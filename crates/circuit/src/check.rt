@@ -1,7 +1,7 @@
 // The circuit rules and the circuit check.
 ghost use Rattle.std.specs.Prelude.{◌≡◌, ◌+◌, ◌*◌, ◌^◌, ◌≤◌, leb, length};
 ghost use Rattle.circuit.specs.Records.{wires_of, nodes_of, output_wires};
-ghost use Rattle.circuit.specs.Check.{not_below, some_not_below, record_broken, check_nodes, check_node, node_broken, some_broken, whole, topological_fault, records_fault};
+ghost use Rattle.circuit.specs.Check.{not_below, some_not_below, record_broken, wire_refusal, check_nodes, node_broken, some_broken, whole, topological_fault, records_fault};
 
 use crate::checked::CheckedCircuit;
 use crate::nodes::{Nodes, Outputs};
@@ -39,26 +39,18 @@ pub fn record_broken(n: BoolNode) -> bool
     }
 }
 
-/// Node i of m: its record, then its wires in turn. Broken, or a wire that is not earlier.
-pub fn check_node(n: BoolNode, m: usize, i: usize) -> Result<(), Refusal>
-    ensures { result ≡ check_node m i n }
+/// What a wire that is not earlier is refused with, in a circuit of m nodes: Broken where it is of none of them, else NotEarlier.
+pub fn wire_refusal(w: BoolWire, m: usize) -> Refusal
+    ensures { result ≡ wire_refusal m w }
 {
-    if record_broken(n) {
-        return Err(Refusal::Broken);
+    if not_below(w, m) {
+        Refusal::Broken
+    } else {
+        Refusal::NotEarlier
     }
-    for k in 0..wire_count(n) {
-        let w = wire_at(n, k);
-        if not_below(w, m) {
-            return Err(Refusal::Broken);
-        }
-        if not_below(w, i) {
-            return Err(Refusal::NotEarlier);
-        }
-    }
-    Ok(())
 }
 
-/// The nodes and their wires in turn: both scans are left at the first fault.
+/// The nodes and their wires in turn: both scans are left at the first broken record or wire that is not earlier.
 pub fn check_nodes(nodes: Nodes) -> Result<(), Refusal>
     ensures { result ≡ check_nodes nodes.entry.count 0 (nodes_of nodes.entry.words.now nodes.entry.count) }
 {
@@ -71,12 +63,8 @@ pub fn check_nodes(nodes: Nodes) -> Result<(), Refusal>
         }
         for k in 0..wire_count(n) {
             let w = wire_at(n, k);
-            if not_below(w, nodes.count) {
-                answer = Err(Refusal::Broken);
-                break 'scan;
-            }
             if not_below(w, i) {
-                answer = Err(Refusal::NotEarlier);
+                answer = Err(wire_refusal(w, nodes.count));
                 break 'scan;
             }
         }

@@ -6,12 +6,12 @@ ghost use Rattle.std.specs.Prelude.{◌≡◌, length};
 ghost use Rattle.circuit.specs.Check.{check_nodes};
 ghost use Rattle.node_slices.specs.Slices.{slice_fault};
 
-use circuit::check::{not_below, output_outside, record_broken};
+use circuit::check::{not_below, output_outside, record_broken, wire_refusal};
 use circuit::nodes::Outputs;
 use circuit::records::{BoolNode, OUTPUT_WORDS, wire_at, wire_count};
 use circuit::refusals::Refusal;
 
-/// The nodes and their wires in turn: both scans are left at the first fault, Broken or NotEarlier.
+/// The nodes and their wires in turn: both scans are left at the first broken record or wire that is not earlier.
 pub fn check_node_slice(nodes: &[BoolNode]) -> Result<(), Refusal>
     ensures { result ≡ check_nodes (length nodes.now) 0 nodes.now }
 {
@@ -23,12 +23,8 @@ pub fn check_node_slice(nodes: &[BoolNode]) -> Result<(), Refusal>
         }
         for k in 0..wire_count(n) {
             let w = wire_at(n, k);
-            if not_below(w, nodes.len()) {
-                answer = Err(Refusal::Broken);
-                break 'scan;
-            }
             if not_below(w, i) {
-                answer = Err(Refusal::NotEarlier);
+                answer = Err(wire_refusal(w, nodes.len()));
                 break 'scan;
             }
         }

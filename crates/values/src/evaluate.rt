@@ -9,21 +9,18 @@ use crate::assignments::{assigned_fault, some_above};
 use crate::cell::wire_value;
 use crate::outputs::{put_outputs, room_fault};
 use cells::table_entry;
-use circuit::check::{are_whole, not_below, output_outside, record_broken};
+use circuit::check::{are_whole, not_below, output_outside, record_broken, wire_refusal};
 use circuit::nodes::{Nodes, Outputs};
 use circuit::records::{BoolWire, CELL, NODE_WORDS, wire_count};
 use circuit::refusals::Refusal;
 
 /// A wire of node i of m: `Broken` where it is of no node of the circuit, `NotEarlier` where it is of a node that is not before i.
-#[tactic(auto, unfolding(circuit::specs::Check::check_wires))]
 pub fn check_wire(wire: BoolWire, m: usize, i: usize) -> Result<(), Refusal>
+    requires { i ≤ m }
     ensures { result ≡ check_wires m i (wire ∷ []) }
 {
-    if not_below(wire, m) {
-        return Err(Refusal::Broken);
-    }
     if not_below(wire, i) {
-        return Err(Refusal::NotEarlier);
+        return Err(wire_refusal(wire, m));
     }
     Ok(())
 }
