@@ -1,4 +1,4 @@
-// What a circuit gives.
+// What a circuit gives. Each call answers the refusal's number, 0 where it accepts, and zeros every lent area after a refusal.
 ghost use Rattle.std.specs.Prelude.{◌≡◌};
 ghost use Rattle.values.specs.Calls.{evaluate_call};
 ghost use Rattle.runs.specs.Calls.{run_call};
@@ -10,7 +10,7 @@ use numbered::exhaustive_inputs;
 use runs::run::run;
 use values::evaluate::evaluate;
 
-// The outputs for one assignment of 0 and 1; the values are a work area.
+/// The outputs for one assignment of 0 and 1. `values` is a work area with a byte for each node, zero after the call; `output_count` is 0 after a refusal.
 #[unsafe(no_mangle)]
 pub extern "C" fn relay_evaluate(
     nodes: &[usize],
@@ -26,7 +26,8 @@ pub extern "C" fn relay_evaluate(
     answer_counted(evaluated, output_count)
 }
 
-// The outputs along an order list, for values 0, 1 and 2 (unknown); the values are a work area.
+/// The outputs along an order list, for values 0, 1 and 2 (unknown). `values` is a work area with a byte for each node, zero after the call, whatever it held
+/// before; `cell_count` is 0 after a refusal.
 #[unsafe(no_mangle)]
 pub extern "C" fn relay_run(
     nodes: &[usize],
@@ -43,7 +44,7 @@ pub extern "C" fn relay_run(
     answer_counted(ran, cell_count)
 }
 
-// One numbered assignment of all.
+/// One numbered assignment of all. `input_count` is 0 after a refusal.
 #[unsafe(no_mangle)]
 pub extern "C" fn relay_exhaustive_inputs(
     nodes: &[usize],
