@@ -18,8 +18,11 @@ const WORD_MARKS: usize = 64;
 /// The words of marks for a circuit of up to 4,096 nodes: to clear more would take longer than the rest of its run.
 const FEW_WORDS: usize = 64;
 
-/// The words of marks for a larger one: a pass over the list for each 524,288 nodes.
-const MANY_WORDS: usize = 8192;
+/// The words of marks for one of up to 131,072 nodes, 16 KB.
+const MANY_WORDS: usize = 2048;
+
+/// The words of marks for a larger one, 128 KB: a pass over the list for each 1,048,576 nodes, as many as a reader makes. Two passes take a fifth longer.
+const MOST_WORDS: usize = 16_384;
 
 /// Nodes that the circuit check accepts.
 #[derive(Clone, Copy)]
@@ -114,10 +117,10 @@ pub fn take_entries(
 }
 
 /// One pass over the list, with marks for the nodes from `lo` on.
-// Not inlined: in the exported call the loop would have too few registers.
+// Not inlined: in the exported call the loop would have too few registers, and the most marks would stand on the stack of every run.
 #[inline(never)]
 fn fit_block<const N: usize>(checked: CheckedNodes, order: &[usize], lo: usize) -> Option<()>
-    requires { N ≤ MANY_WORDS }
+    requires { N ≤ MOST_WORDS }
     ensures { is_some result ≡ fit_here checked.entry.nodes.words.now checked.entry.nodes.count lo (N * WORD_MARKS) order.now }
 {
     let mut marks = [0; N];
@@ -126,7 +129,7 @@ fn fit_block<const N: usize>(checked: CheckedNodes, order: &[usize], lo: usize) 
 
 /// A pass for each block of so many words of marks.
 fn fit_blocks<const N: usize>(checked: CheckedNodes, order: &[usize]) -> Option<()>
-    requires { (length order.now ≤ checked.nodes.count) × (0 < N) × (N ≤ MANY_WORDS) }
+    requires { (length order.now ≤ checked.nodes.count) × (0 < N) × (N ≤ MOST_WORDS) }
     ensures { is_some result ≡ fit (graph_of (nodes_of checked.entry.nodes.words.now checked.entry.nodes.count)) [] order.now }
 {
     for lo in (0..checked.nodes.count).step_by(N * WORD_MARKS) {
@@ -142,8 +145,10 @@ pub fn fit_marked(checked: CheckedNodes, order: &[usize]) -> Option<()>
 {
     if checked.nodes.count <= FEW_WORDS * WORD_MARKS {
         fit_blocks::<FEW_WORDS>(checked, order)
-    } else {
+    } else if checked.nodes.count <= MANY_WORDS * WORD_MARKS {
         fit_blocks::<MANY_WORDS>(checked, order)
+    } else {
+        fit_blocks::<MOST_WORDS>(checked, order)
     }
 }
 
