@@ -33,14 +33,14 @@ pub fn declaration_of(bytes: &[u8]) -> Declaration
     }
 }
 
-// What is declared, and the one name.
+/// What is declared, and the one name.
 #[derive(Clone, Copy)]
 pub struct Named {
     pub declaration: Declaration,
     pub name: Word,
 }
 
-// 9, 6.
+/// A declaration and its name: `Malformed`, then `WrongCount` unless there is one name.
 #[tactic(auto, using(crate::proofs::Planning::name_refused, crate::proofs::Planning::no_name))]
 pub fn declared_name(text: &[u8], line: Word) -> Result<Named, Refusal>
     requires { line.start + line.len ≤ length text.now }
@@ -57,7 +57,7 @@ pub fn declared_name(text: &[u8], line: Word) -> Result<Named, Refusal>
     })
 }
 
-// An input node, an output's word, or 8.
+/// Adds what is declared: an input node and its name, or an output's word; `Unknown` for any other declaration.
 #[tactic(auto, unfolding(crate::specs::Bench::declare, reading::specs::Reading::add_input, reading::specs::Reading::add_named))]
 pub fn declare_name(
     text: &[u8],

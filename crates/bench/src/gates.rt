@@ -18,7 +18,7 @@ use names::new_name::NewName;
 use reading::records::Counts;
 use text::words::{Word, trim};
 
-// A gate with a new output and its invocation: 5.
+/// A gate with a new output and its invocation; `NoDriver` at the first input that has none.
 #[tactic(auto, using(crate::proofs::Planning::plan_refused, crate::proofs::Planning::inputs_refused, crate::proofs::Planning::plan_made))]
 pub fn plan_inputs(table: &NameTable, out: NewName, invocation: Invocation) -> Result<Plan, Refusal>
     requires new { IsNew table.now.text.now table.now.heads.now table.now.names.now table.now.count out }
@@ -36,7 +36,8 @@ pub fn plan_inputs(table: &NameTable, out: NewName, invocation: Invocation) -> R
     })
 }
 
-// What stands before the first `=` of a line, and what stands after it: 9, 4, 9, 5.
+/// A gate by what stands before the first `=` of a line and what stands after it: `Malformed` without an output, `DefinedBefore`,
+/// `Malformed` by its invocation, `NoDriver`.
 #[tactic(auto, using(crate::proofs::Planning::plan_refused, crate::proofs::Planning::no_output, crate::proofs::Planning::known_output, crate::proofs::Planning::new_output))]
 pub fn plan_gate(table: &NameTable, before: Word, after: Word) -> Result<Plan, Refusal>
     requires before_in_text { before.start + before.len ≤ length table.now.text.now }
@@ -55,7 +56,7 @@ pub fn plan_gate(table: &NameTable, before: Word, after: Word) -> Result<Plan, R
     plan_inputs(table, new, invocation)
 }
 
-// A gate: all checks, then its nodes and its name.
+/// A gate: all checks, then its nodes and its name.
 #[tactic(auto, unfolding(crate::specs::Bench::gate_line))]
 pub fn gate_line(
     text: &[u8],

@@ -14,7 +14,7 @@ use text::bytes::find_byte;
 use text::iterators::lines_of;
 use text::words::Word;
 
-// A line: a gate or a declaration.
+/// A line: a gate or a declaration.
 #[tactic(auto, using(crate::proofs::LineLaws::cut_inside, crate::proofs::LineLaws::line_gate, crate::proofs::LineLaws::line_declaration))]
 pub fn read_line(
     text: &[u8],

@@ -11,7 +11,7 @@ use names::new_name::NewName;
 use reading::format::{Names, parse};
 use text::words::Word;
 
-// The format ISCAS BENCH; how its lines are read stands in `lines`.
+/// The format ISCAS BENCH; how its lines are read stands in `lines`.
 pub struct Bench;
 
 impl Names for Bench {
@@ -22,7 +22,7 @@ impl Names for Bench {
     }
 }
 
-// A BENCH text into a circuit: what the definition gives and leaves, whatever the areas hold.
+/// A BENCH text into a circuit: what the definition gives and leaves, whatever the areas hold.
 pub fn parse_bench(
     text: &[u8],
     joined: &mut [u8],

@@ -14,6 +14,7 @@ use Rattle.std.proofs.lemmas.Iterator.{YieldsList}
 use Rattle.std.proofs.lemmas.Iterator.Adapters.{YieldsList-from_skip}
 use Rattle.laws.specs.Areas.{capacity}
 use Rattle.laws.specs.Stretches.{All}
+use Rattle.circuit.specs.declared.records.TheConstants.{NODE_WORDS}
 use Rattle.circuit.specs.declared.refusals.Refusal.{Refusal}
 use Rattle.circuit.specs.declared.records.BoolNode.{BoolNode}
 use Rattle.circuit.specs.Refusals.{Try, and_then}
@@ -152,7 +153,7 @@ module _ {t : List ℕ} {es : List Entry} {q : Plan} {o : Binary} {words : ℕ} 
 
       -- an input with one, and the step before it
       module _ (z : ℕ) (f : Ok z ≡ driver (find true t w es)) (new : List ℕ) where
-        pub stepping_refused : (e : Refusal) → Err e ≡ add_node (capacity 9 words) (step_cell q.out.word o (n + 1) c.signal c.next) (nodes_of ns c.nodes) → NodesHold new c.nodes → StepsAre t es q o words old first new (Err e)
+        pub stepping_refused : (e : Refusal) → Err e ≡ add_node (capacity NODE_WORDS words) (step_cell q.out.word o (n + 1) c.signal c.next) (nodes_of ns c.nodes) → NodesHold new c.nodes → StepsAre t es q o words old first new (Err e)
         stepping_refused e a k =
             let g = turn s u h.coming w h.given p in
             record {
@@ -160,7 +161,7 @@ module _ {t : List ℕ} {es : List Entry} {q : Plan} {o : Binary} {words : ℕ} 
               area = (c.nodes, k);
             }
 
-        pub stepping_on : (d : Chained) → Ok (nodes_of new d.nodes) ≡ add_node (capacity 9 words) (step_cell q.out.word o (n + 1) c.signal c.next) (nodes_of ns c.nodes)
+        pub stepping_on : (d : Chained) → Ok (nodes_of new d.nodes) ≡ add_node (capacity NODE_WORDS words) (step_cell q.out.word o (n + 1) c.signal c.next) (nodes_of ns c.nodes)
             → (d.signal ≡ wire_word (Node (record { 0 = c.nodes }))) × (d.next ≡ z) → NodesHold new d.nodes → Stepping t es q o words old first u (n + 1) new d
         stepping_on d a b k =
             let g = turn s u h.coming w h.given p in

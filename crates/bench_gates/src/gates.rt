@@ -13,7 +13,7 @@ use circuit::refusals::Refusal;
 use names::NameTable;
 use reading::records::{Counts, add_name, add_named, stretch_name, word_cell};
 
-// BUFF, BUF: a name for the wire of the one input; how many names there are then.
+/// BUFF, BUF: a name for the wire of the one input; how many names there are then.
 pub fn lower_buffer(
     text: &[u8],
     plan: Plan,
@@ -53,7 +53,7 @@ pub fn lower_inverter(
     add_named(text, plan.out, node, counts, heads, nodes, names)
 }
 
-// A chain of any length: the steps, then the last cell. The first two wires are at hand, the others are looked up as they come.
+/// A chain of any length: the steps, then the last cell. The first two wires are at hand, the others are looked up as they come.
 pub fn chain_many(
     text: &[u8],
     plan: Plan,
@@ -100,7 +100,7 @@ pub fn chain_many(
     )
 }
 
-// The operation and its count: 6, 8; then the nodes and the name.
+/// A gate by its operation: `WrongCount` or `Unknown`, else its nodes and its name.
 pub fn lower_bench_gate(
     text: &[u8],
     plan: Plan,

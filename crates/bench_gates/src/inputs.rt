@@ -6,6 +6,7 @@ ghost use Rattle.bench_invocations.specs.Invocations.{arguments_of};
 ghost use Rattle.bench_gates.specs.Gates.{input_wires};
 ghost use Rattle.bench_gates.specs.Walks.{first_three};
 
+use crate::plans::KEPT;
 use bench_invocations::iterators::arguments_of;
 use circuit::refusals::Refusal;
 use names::NameTable;
@@ -51,7 +52,7 @@ pub fn search_wire(table: &NameTable, word: Word) -> Result<usize, NewName>
     }
 }
 
-// The wire of an argument, or 5 if it has no driver.
+/// The wire of an argument; `NoDriver` if it has none.
 pub fn argument_wire(table: &NameTable, argument: Word) -> Result<usize, Refusal>
     requires { argument.start + argument.len ≤ length table.now.text.now }
     ensures { result ≡ driver (find true table.now.text.now argument (entries_of table.now)) }
@@ -59,17 +60,18 @@ pub fn argument_wire(table: &NameTable, argument: Word) -> Result<usize, Refusal
     find_wire(table, argument).ok_or(Refusal::NoDriver)
 }
 
-// The wires of the first three of the inputs in a stretch (0 where there is none), from which a gate of two or three is made; 5 at the first input without a driver.
+/// The wires of the first `KEPT` inputs in a stretch, 0 where there is none, from which a gate of two or three is made;
+/// `NoDriver` at the first input that has none.
 #[tactic(auto, using(crate::proofs::Drivers::walking_first, crate::proofs::Drivers::walking_later))]
-pub fn input_wires(table: &NameTable, inside: Word) -> Result<[usize; 3], Refusal>
+pub fn input_wires(table: &NameTable, inside: Word) -> Result<[usize; KEPT], Refusal>
     requires { inside.start + inside.len ≤ length table.now.text.now }
     ensures { let t = table.now.text.now in
         result ≡ outcome first_three (input_wires t (entries_of table.now) (arguments_of t inside)) }
 {
-    let mut wires = [0; 3];
+    let mut wires = [0; KEPT];
     for (n, argument) in arguments_of(table.text, inside).enumerate() {
         let wire = argument_wire(table, argument)?;
-        if n < 3 {
+        if n < KEPT {
             wires[n] = wire;
         }
     }

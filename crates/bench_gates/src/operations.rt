@@ -32,7 +32,7 @@ impl Binary {
         }
     }
 
-    // The operation of the steps before the last.
+    /// The operation of the steps before the last.
     pub fn associative(self) -> Binary
         ensures { result ≡ associative self }
     {
@@ -52,7 +52,7 @@ pub enum Operation {
     Other,
 }
 
-// The letters may be in any case, so they are compared one name after the other, not by a `match` on the bytes.
+/// The operation of two or more inputs of that name, in letters of any case, which a `match` on the bytes does not compare.
 #[tactic(auto, unfolding(crate::specs::Operations::binary_of))]
 pub fn binary_of(bytes: &[u8]) -> Operation
     ensures { result ≡ binary_of bytes.now }

@@ -4,12 +4,16 @@ use crate::operations::Operation;
 use names::new_name::NewName;
 use text::words::Word;
 
-// Its output, a new name, its operation, the stretch of its arguments, how many they are, and the wires of the first three (0 where there is none: no `Option`, since only as many are read as there are inputs).
+/// How many input wires are kept where a gate is read: those of a gate of two or three inputs are not looked up again.
+pub const KEPT: usize = 3;
+
+/// Its output, a new name, its operation, the stretch of its arguments, how many they are, and the wires of the first `KEPT`: 0
+/// where there is none, since only as many are read as there are inputs.
 #[derive(Clone, Copy)]
 pub struct Plan {
     pub out: NewName,
     pub operation: Operation,
     pub inside: Word,
     pub inputs: usize,
-    pub wires: [usize; 3],
+    pub wires: [usize; KEPT],
 }

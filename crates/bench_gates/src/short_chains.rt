@@ -7,6 +7,7 @@ ghost use Rattle.bench_gates.specs.Gates.{last_cell, chain};
 
 use crate::chains::push_bench_lut;
 use crate::operations::Binary;
+use crate::plans::KEPT;
 use circuit::records::{NodeNumber, node_word};
 use circuit::refusals::Refusal;
 use names::new_name::NewName;
@@ -40,7 +41,7 @@ pub fn chain_triple(
     text: &[u8],
     out: NewName,
     operation: Binary,
-    wires: [usize; 3],
+    wires: [usize; KEPT],
     counts: Counts,
     heads: &mut [usize; 256],
     nodes: &mut [usize],

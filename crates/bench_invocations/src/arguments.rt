@@ -1,7 +1,7 @@
 // The arguments of an invocation.
 ghost use Rattle.std.specs.Prelude.{◌+◌, ◌≤◌, length};
 
-// The arguments of a text up to `end`, as an iterator gives them: those from `at` on are still to come, and none where that is past the end.
+/// The arguments of a text up to `end`, as an iterator gives them: those from `at` on are still to come, and none where that is past the end.
 #[derive(Clone, Copy)]
 pub struct Arguments<'a> {
     pub text: &'a [u8],

@@ -8,7 +8,7 @@ use circuit::refusals::Refusal;
 use text::bytes::find_byte;
 use text::words::{Word, trim};
 
-// The place of the last x in a word, if there is one.
+/// The place of the last x in a word, if there is one.
 pub fn find_last_byte(text: &[u8], x: u8, word: Word) -> Option<usize>
     requires { word.start + word.len ≤ length text.now }
     ensures { result ≡ last_place x text.now word }
@@ -17,7 +17,7 @@ pub fn find_last_byte(text: &[u8], x: u8, word: Word) -> Option<usize>
     Some(word.start + last)
 }
 
-// The operation, what stands between the parentheses, and how many arguments that holds: they are counted where an empty one is refused, and not again.
+/// The operation, what stands between the parentheses, and how many arguments that holds: they are counted where an empty one is refused, and not again.
 #[derive(Clone, Copy)]
 pub struct Invocation {
     pub operation: Word,
@@ -25,7 +25,7 @@ pub struct Invocation {
     pub count: usize,
 }
 
-// An operation with the arguments that stand between its parentheses.
+/// An operation with the arguments that stand between its parentheses.
 pub fn invocation_arguments(
     text: &[u8],
     operation: Word,
@@ -42,7 +42,7 @@ pub fn invocation_arguments(
     })
 }
 
-// A line as an invocation: from its first `(` to its last `)`, with blanks alone after that.
+/// A line as an invocation: from its first `(` to its last `)`, with blanks alone after that.
 #[tactic(auto, using(crate::proofs::Parts::some_ok, crate::proofs::Parsing::malformed, crate::proofs::Parsing::opening_inside, crate::proofs::Parsing::closing_inside, crate::proofs::Parsing::reversed))]
 pub fn parse_bench_invocation(text: &[u8], line: Word) -> Result<Invocation, Refusal>
     requires { line.start + line.len ≤ length text.now }

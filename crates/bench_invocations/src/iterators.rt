@@ -8,7 +8,7 @@ use circuit::refusals::Refusal;
 use text::bytes::skip_to_far;
 use text::words::{Word, trim};
 
-// The arguments that a stretch of a text holds, as `for argument in arguments_of(text, word)` takes them: blank arguments mean none.
+/// The arguments that a stretch of a text holds, as `for argument in arguments_of(text, word)` takes them: blank arguments mean none.
 pub fn arguments_of(text: &[u8], word: Word) -> Arguments
     requires { word.start + word.len ≤ length text.now }
     ensures same_text { result.text.now ≡ text.now }
@@ -40,7 +40,7 @@ impl<'a> Iterator for Arguments<'a> {
     }
 }
 
-// How many arguments there are: 9 if one is empty.
+/// How many arguments there are; `Malformed` if one is empty.
 pub fn count_arguments(arguments: Arguments) -> Result<usize, Refusal>
     ensures { result ≡ counted (arguments_left arguments.entry) 0 }
 {

@@ -25,7 +25,7 @@ use text::words::Word;
 /// The table of one input whose value is the input's.
 pub const BUFFER: usize = 2;
 
-// A gate that passed its checks: its new output name, the wires of its inputs, and its table.
+/// A gate that passed its checks: its new output name, the wires of its inputs, and its table.
 #[derive(Clone, Copy)]
 pub struct Planned {
     pub out: NewName,
@@ -33,7 +33,7 @@ pub struct Planned {
     pub table: usize,
 }
 
-// The wire of an input word: 5.
+/// The wire of an input word; `NoDriver` if it has none.
 #[tactic(auto, unfolding(reading::specs::Reading::find))]
 pub fn driver(table: &NameTable, word: Word) -> Result<usize, Refusal>
     requires { word.start + word.len ≤ length table.now.text.now }
@@ -42,7 +42,7 @@ pub fn driver(table: &NameTable, word: Word) -> Result<usize, Refusal>
     table.find(word).ok_or(Refusal::NoDriver)
 }
 
-// The wires of the input words: 5.
+/// The wires of the input words; `NoDriver` at the first that has none.
 #[tactic(auto, unfolding(crate::specs::Blif::drivers))]
 pub fn drivers(table: &NameTable, inputs: Inputs<Word>) -> Result<Inputs<usize>, Refusal>
     requires { InputsFit (length table.now.text.now) (Some inputs) }
@@ -55,7 +55,8 @@ pub fn drivers(table: &NameTable, inputs: Inputs<Word>) -> Result<Inputs<usize>,
     })
 }
 
-// The words after `.names`, with the rows from `next` on: 9, 4, 6, 5, 7.
+/// The gate of the words after `.names`, with the rows from `next` on: `Malformed` without a word, `DefinedBefore`, `WrongCount`,
+/// `NoDriver`, `BadRow`.
 #[tactic(auto, using(crate::proofs::Plans::plan_none, crate::proofs::Plans::plan_known, crate::proofs::Plans::plan_many, crate::proofs::Plans::plan_rows))]
 pub fn plan_gate(table: &NameTable, line: Word, next: usize) -> Result<Planned, Refusal>
     requires { line.start + line.len ≤ length table.now.text.now }
@@ -77,7 +78,7 @@ pub fn plan_gate(table: &NameTable, line: Word, next: usize) -> Result<Planned, 
     })
 }
 
-// A new name for a wire that is there.
+/// A new name for a wire that is there.
 pub fn add_alias(
     text: &[u8],
     name: NewName,
@@ -136,7 +137,7 @@ pub fn put_gate(
     }
 }
 
-// `.names`, with the stretch after it, and the rows from `next` on.
+/// `.names`, with the stretch after it, and the rows from `next` on.
 #[tactic(auto, unfolding(crate::specs::Blif::names_line))]
 pub fn names_line(
     text: &[u8],

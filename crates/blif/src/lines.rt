@@ -15,7 +15,7 @@ use reading::records::{Counts, Reading};
 use text::iterators::lines_of;
 use text::words::Word;
 
-// A directive with the stretch after it, and the rows from `next` on.
+/// A directive with the stretch after it, and the rows from `next` on.
 #[tactic(auto, unfolding(crate::specs::Blif::directive_step))]
 pub fn read_directive(
     text: &[u8],

@@ -10,7 +10,7 @@ use names::new_name::NewName;
 use reading::format::{Names, parse};
 use text::words::Word;
 
-// The format BLIF.
+/// The format BLIF.
 pub struct Blif;
 
 impl Names for Blif {
@@ -22,7 +22,7 @@ impl Names for Blif {
     }
 }
 
-// A BLIF text into a circuit: what the definition gives and leaves, whatever the areas hold.
+/// A BLIF text into a circuit: what the definition gives and leaves, whatever the areas hold.
 pub fn parse_blif(
     text: &[u8],
     joined: &mut [u8],

@@ -10,7 +10,7 @@ use reading::outputs::add_output;
 use reading::records::{Counts, add_input};
 use text::words::Words;
 
-// The words of `.inputs`.
+/// The words of `.inputs`: how many nodes and names there are then.
 #[tactic(auto, using(text::proofs::WordLaws::each_word), unfolding(reading::specs::Reading::each))]
 pub fn input_words(
     words: Words,
@@ -32,7 +32,7 @@ pub fn input_words(
     Ok(held)
 }
 
-// The words of `.outputs`. One function for both lists would take the step as a closure, and of areas that a closure changes its caller would learn nothing.
+/// The words of `.outputs`: how many outputs there are then.
 #[tactic(auto, using(text::proofs::WordLaws::each_word), unfolding(reading::specs::Reading::each))]
 pub fn output_words(words: Words, count: usize, outputs: &mut [usize]) -> Result<usize, Refusal>
     requires { WordsHold words.text.now outputs.old count }

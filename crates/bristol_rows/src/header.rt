@@ -13,7 +13,7 @@ use crate::words::{LineWords, split_whitespace};
 use circuit::refusals::Refusal;
 use text::lines::KeptLines;
 
-// A sum and one number more; none where one of them is above the limit.
+/// A sum and one number more; `None` where one of them is above the limit.
 pub fn add_to(sum: Option<usize>, n: usize, limit: usize) -> Option<usize>
     ensures { result ≡ add_to limit sum n }
 {
@@ -21,7 +21,7 @@ pub fn add_to(sum: Option<usize>, n: usize, limit: usize) -> Option<usize>
     if more <= limit { Some(more) } else { None }
 }
 
-// The numbers of a line's rest: how many, and their sum.
+/// The numbers of a line's rest: how many, and their sum.
 #[tactic(auto, using(crate::proofs::WordLaws::words_few, crate::proofs::NumberLaws::each_none, crate::proofs::NumberLaws::each_value, crate::proofs::HeaderLineLaws::widths_end, crate::proofs::HeaderLineLaws::widths_on))]
 pub fn read_widths(words: LineWords, limit: usize) -> Result<Widths, Refusal>
     ensures { result ≡ widths_of limit 0 (Some 0) (parse_each (words_left words.entry)) }
@@ -35,7 +35,7 @@ pub fn read_widths(words: LineWords, limit: usize) -> Result<Widths, Refusal>
     Ok(Widths { count, sum })
 }
 
-// A group line: the number of groups, and their widths: their sum, if they are so many and it is at most the limit.
+/// A group line: the number of groups, and their widths: their sum, if they are so many and it is at most the limit.
 #[tactic(auto, using(crate::proofs::NumberLaws::each_none, crate::proofs::HeaderLineLaws::group_none))]
 pub fn grouped_wire_count(line: &[u8], limit: usize) -> Result<Option<usize>, Refusal>
     ensures { result ≡ group_of limit (parse_each (split_whitespace line.now)) }
@@ -53,7 +53,7 @@ pub fn grouped_wire_count(line: &[u8], limit: usize) -> Result<Option<usize>, Re
     })
 }
 
-// The first line: two numbers. Words after them are malformed, but one that is no number is told first.
+/// The first line: two numbers. `NotNumber` comes before `Malformed`, which is said of words that are missing or too many.
 #[tactic(auto, using(crate::proofs::HeaderLineLaws::gates_first))]
 pub fn read_counts(line: &[u8]) -> Result<Counts, Refusal>
     ensures { result ≡ counts_of (parse_each (split_whitespace line.now)) }
@@ -68,7 +68,7 @@ pub fn read_counts(line: &[u8]) -> Result<Counts, Refusal>
     Ok(Counts { gates, wires })
 }
 
-// The group lines, once the counts are known.
+/// The group lines, once the counts are known: `NotNumber`, then `HeaderMismatch`.
 #[tactic(auto, using(crate::proofs::HeaderLaws::lines_first, crate::proofs::HeaderLaws::lines_second, crate::proofs::HeaderLaws::no_first))]
 pub fn read_groups(b: &[u8], c: &[u8], counts: Counts) -> Result<Head, Refusal>
     ensures { HeadIs (group_lines counts.gates counts.wires b.now c.now) result }
@@ -87,7 +87,7 @@ pub fn read_groups(b: &[u8], c: &[u8], counts: Counts) -> Result<Head, Refusal>
     })
 }
 
-// The header: the first three lines of those that are left.
+/// The header: the first three lines of those that are left; `Malformed` if there are not three.
 #[tactic(auto, using(crate::proofs::HeaderLaws::header_none, crate::proofs::HeaderLaws::header_one, crate::proofs::HeaderLaws::header_two))]
 pub fn read_header(lines: &mut KeptLines) -> Result<Head, Refusal>
     ensures { HeaderIs (kept_left lines.old) (kept_left lines.new) result }

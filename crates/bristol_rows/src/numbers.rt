@@ -8,7 +8,7 @@ use crate::words::{LineWords, count_words};
 use circuit::refusals::Refusal;
 use text::numbers::parse_usize;
 
-// A word's number.
+/// A word's number, or `NotNumber`.
 #[tactic(auto, unfolding(crate::specs::Numbers::number))]
 pub fn read_number(word: &[u8]) -> Result<usize, Refusal>
     ensures { result ≡ number word.now }
@@ -16,7 +16,7 @@ pub fn read_number(word: &[u8]) -> Result<usize, Refusal>
     parse_usize(word).ok_or(Refusal::NotNumber)
 }
 
-// What an arity that is no number is refused with: malformed all the same where fewer words than `least` come after it.
+/// What an arity that is no number is refused with: malformed all the same where fewer words than `least` come after it.
 pub fn arity_invalid(words: LineWords, least: usize) -> Refusal
     ensures { result ≡ invalid_arity least (words_left words.entry) }
 {
@@ -27,7 +27,7 @@ pub fn arity_invalid(words: LineWords, least: usize) -> Refusal
     }
 }
 
-// The next word as an arity. Inlined, so that the words stay in registers: reading takes a seventh less time.
+/// The next word as an arity. Inlined, so that the words stay in registers: reading takes a seventh less time.
 #[inline(always)]
 pub fn next_arity(words: &mut LineWords, least: usize) -> Result<usize, Refusal>
     ensures { (result ≡ first_arity least (words_left words.old)) × (words_left words.new ≡ drop 1 (words_left words.old)) }
@@ -39,7 +39,7 @@ pub fn next_arity(words: &mut LineWords, least: usize) -> Result<usize, Refusal>
     }
 }
 
-// The next word's number; malformed where no word is left.
+/// The next word's number; malformed where no word is left.
 #[tactic(auto, using(crate::proofs::NumberLaws::first_any))]
 pub fn next_number(words: &mut LineWords) -> Result<usize, Refusal>
     ensures { (result ≡ first_number (words_left words.old)) × (words_left words.new ≡ drop 1 (words_left words.old)) }

@@ -6,7 +6,7 @@ ghost use Rattle.bristol_rows.specs.Promises.{made_of};
 use circuit::refusals::Refusal;
 use text::bytes::is_named;
 
-// EQ, EQW, BUF.
+/// Whether a row of that operation makes no cell: EQ, EQW, BUF.
 #[tactic(auto, unfolding(crate::specs::Operation::is_alias))]
 pub fn is_alias(op: &[u8]) -> bool
     ensures { result ≡ is_alias op.now }
@@ -14,7 +14,7 @@ pub fn is_alias(op: &[u8]) -> bool
     is_named(op, b"EQ") || is_named(op, b"EQW") || is_named(op, b"BUF")
 }
 
-// INV, NOT.
+/// Whether it is the operation that turns its one input: INV, NOT.
 #[tactic(auto, unfolding(crate::specs::Operation::inverts))]
 pub fn is_inverter(op: &[u8]) -> bool
     ensures { result ≡ inverts op.now }
@@ -22,8 +22,7 @@ pub fn is_inverter(op: &[u8]) -> bool
     is_named(op, b"INV") || is_named(op, b"NOT")
 }
 
-// The names may be in any case, so they are compared one after the other, not by a `match` on the bytes.
-// bench_gates has the six as an enum, since it also chains them: only this table of names is common, and a crate below both for it alone would be longer.
+/// The table of the operation of two inputs of that name, in letters of any case; `Unknown` if there is none.
 #[tactic(auto, unfolding(crate::specs::Operation::two_input_table))]
 pub fn two_input_table(op: &[u8]) -> Result<usize, Refusal>
     ensures { result ≡ two_input_table op.now }
@@ -45,7 +44,7 @@ pub fn two_input_table(op: &[u8]) -> Result<usize, Refusal>
     }
 }
 
-// The table of an operation with so many inputs.
+/// The table of an operation with so many inputs; `Unknown` if there is none.
 #[tactic(auto, unfolding(crate::specs::Operation::truth_table))]
 pub fn bristol_truth_table(op: &[u8], inputs: usize) -> Result<usize, Refusal>
     ensures { result ≡ truth_table op.now inputs }
@@ -57,7 +56,8 @@ pub fn bristol_truth_table(op: &[u8], inputs: usize) -> Result<usize, Refusal>
     }
 }
 
-// The operation of a row with so many inputs: the table of its cell, or none where the output wire is another name of the input.
+/// The operation of a row with so many inputs: the table of its cell, or `None` where the output wire is another name of the input,
+/// which has to be one: else `WrongCount`.
 #[tactic(auto, unfolding(crate::specs::Operation::operation))]
 pub fn read_operation(op: &[u8], inputs: usize) -> Result<Option<usize>, Refusal>
     ensures { made_of result ≡ operation op.now inputs }

@@ -5,14 +5,14 @@ ghost use Rattle.bristol_rows.specs.Words.{words_left};
 
 use text::blanks::{scan_blank, skip_blanks};
 
-// The words of a line, as an iterator gives them: those of `rest` are still to come.
-// Over the places that `text::words::Words` gives, reading Bristol took 1.4 times as long.
+/// The words of a line, as an iterator gives them: those of `rest` are still to come.
+/// The words as slices: by their places in the text, reading Bristol takes 1.4 times as long.
 #[derive(Clone, Copy)]
 pub struct LineWords<'a> {
     pub rest: &'a [u8],
 }
 
-// A line, split at its blanks.
+/// A line, split at its blanks.
 pub fn split_whitespace(line: &[u8]) -> LineWords
     ensures { words_left result ≡ split_whitespace line.now }
 {
@@ -41,7 +41,7 @@ impl<'a> Iterator for LineWords<'a> {
     }
 }
 
-// How many words are left.
+/// How many words are left.
 #[tactic(auto, using(crate::proofs::WordLaws::words_few))]
 pub fn count_words(words: LineWords) -> usize
     ensures { result ≡ length (words_left words.entry) }

@@ -15,6 +15,7 @@ use Rattle.std.proofs.lemmas.List.{drop-map, map-id}
 use Rattle.std.proofs.lemmas.Bool.{and_parts}
 use Rattle.laws.specs.Areas.{capacity}
 use Rattle.laws.specs.Sums.{sum}
+use Rattle.circuit.specs.declared.records.TheConstants.{NODE_WORDS, OUTPUT_WORDS}
 use Rattle.circuit.specs.declared.refusals.Refusal.TheVariants.{HeaderMismatch}
 use Rattle.circuit.specs.declared.records.BoolWire.{BoolWire}
 use Rattle.circuit.specs.declared.records.Output.{Output}
@@ -180,8 +181,8 @@ bristol_means text nodes outputs wires c e alike =
     let q = need-yes (is_ascii text) _ _ c p.1 in
     let h = then_yes (header (kept_lines text)) _ c q.1 in
     let n = need-yes (leb h.0.wires (capacity 1 wires)) _ _ c h.2 in
-    let m = need-yes (leb h.0.inputs (capacity 9 nodes)) _ _ c n.1 in
+    let m = need-yes (leb h.0.inputs (capacity NODE_WORDS nodes)) _ _ c n.1 in
     let k = counted (kept_lines text) h.0 h.1 in
     let is : (ins : List ℕ) → length ins ≡ input_bits (kept_lines text) → Known ins → evaluated c.nodes (map (λ (o : Output). o.wire) c.outputs) ins ≡ meaning text ins
-    = λ ins l b. meant text h.0 k ins (body_follows (capacity 9 nodes) (capacity 5 outputs) h.0 (drop 3 (kept_lines text)) c m.1 k.fits alike ins (l ∙ k.inputs_are) b) in
+    = λ ins l b. meant text h.0 k ins (body_follows (capacity NODE_WORDS nodes) (capacity OUTPUT_WORDS outputs) h.0 (drop 3 (kept_lines text)) c m.1 k.fits alike ins (l ∙ k.inputs_are) b) in
     record { evaluates = is; stores = λ ins l b. evaluate_same c.nodes (map (λ (o : Output). o.wire) c.outputs) ins b ∙ is ins l b }

@@ -3,8 +3,8 @@ ghost use Rattle.std.specs.Prelude.{◌≡◌, ◌+◌, ◌-◌, ◌≤◌, leng
 
 use crate::line::Line;
 
-// An area of which the first `len` bytes are written. The length stands beside the area, since the
-// area is lent (there is no heap), and how much of it is written is known only as it is written.
+/// An area of which the first `len` bytes are written. The length stands beside the area, since the
+/// area is lent (there is no heap), and how much of it is written is known only as it is written.
 #[derive(Drop)]
 pub struct Lent<'a> {
     pub area: &'a mut [u8],
@@ -13,7 +13,7 @@ pub struct Lent<'a> {
 }
 
 impl<'a> Lent<'a> {
-    // Nothing is written, and all of the area is room.
+    /// Nothing is written, and all of the area is room.
     pub fn new(area: &'a mut [u8]) -> Lent<'a>
         ensures nothing { result.len ≡ 0 }
         ensures area { result.area.now ≡ area.old }

@@ -5,7 +5,7 @@ ghost use Rattle.listing.specs.Lines.{Place};
 
 use arrayvec::ArrayVec;
 
-// What a line is written on, each byte after those that are written.
+/// What a line is written on, each byte after those that are written.
 pub trait Line {
     // The bytes that are written.
     ghost written: { Self → List ℕ };

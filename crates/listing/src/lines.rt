@@ -11,7 +11,7 @@ use crate::pieces::{put_bytes, put_name, put_number, put_numbers, put_wire_word,
 use circuit::nodes::{Nodes, Outputs};
 use circuit::records::{BoolNode, CELL, Name};
 
-// `refused N`.
+/// `refused N`.
 #[tactic(auto, unfolding(crate::specs::Listing::refused_line))]
 pub fn put_refused<L: Line>(line: &mut L, n: usize)
     requires { LINE_BYTES ≤ L.room line.old }
@@ -23,7 +23,7 @@ pub fn put_refused<L: Line>(line: &mut L, n: usize)
     line.push(b'\n');
 }
 
-// `nodes N`.
+/// `nodes N`.
 #[tactic(auto, unfolding(crate::specs::Listing::count_line))]
 pub fn put_count<L: Line>(line: &mut L, n: usize)
     requires { LINE_BYTES ≤ L.room line.old }
@@ -35,7 +35,7 @@ pub fn put_count<L: Line>(line: &mut L, n: usize)
     line.push(b'\n');
 }
 
-// A node's letter, number and name.
+/// A node's letter, number and name.
 #[tactic(auto, unfolding(crate::specs::Listing::node_head))]
 pub fn put_head<L: Line>(line: &mut L, text: &[u8], letter: u8, before: &[u8], i: usize, name: Name)
     requires { (length before.now ≤ PREFIX_BYTES) × (length text.now + HEAD_BYTES ≤ L.room line.old) }
@@ -49,7 +49,7 @@ pub fn put_head<L: Line>(line: &mut L, text: &[u8], letter: u8, before: &[u8], i
     put_name(line, text, before, name);
 }
 
-// The line of an input.
+/// The line of an input.
 #[tactic(auto, unfolding(crate::specs::Listing::input_line))]
 pub fn put_input<L: Line>(line: &mut L, text: &[u8], i: usize, n: BoolNode)
     requires { length text.now + LINE_BYTES ≤ L.room line.old }
@@ -60,7 +60,7 @@ pub fn put_input<L: Line>(line: &mut L, text: &[u8], i: usize, n: BoolNode)
     line.push(b'\n');
 }
 
-// The line of a cell.
+/// The line of a cell.
 #[tactic(auto, unfolding(crate::specs::Listing::cell_line))]
 pub fn put_cell<L: Line>(line: &mut L, text: &[u8], i: usize, n: BoolNode)
     requires { length text.now + LINE_BYTES ≤ L.room line.old }
@@ -73,7 +73,7 @@ pub fn put_cell<L: Line>(line: &mut L, text: &[u8], i: usize, n: BoolNode)
     line.push(b'\n');
 }
 
-// The line of node i.
+/// The line of node i.
 #[tactic(auto, unfolding(crate::specs::Listing::node_line, circuit::specs::Records::is_cell_node))]
 pub fn put_node<L: Line>(line: &mut L, text: &[u8], nodes: Nodes, i: usize)
     requires { (i < nodes.count) × (length text.now + LINE_BYTES ≤ L.room line.old) }
@@ -88,7 +88,7 @@ pub fn put_node<L: Line>(line: &mut L, text: &[u8], nodes: Nodes, i: usize)
     }
 }
 
-// The line of output j.
+/// The line of output j.
 #[tactic(auto, unfolding(crate::specs::Listing::output_line))]
 pub fn put_output<L: Line>(line: &mut L, text: &[u8], outputs: Outputs, j: usize)
     requires { (j < outputs.count) × (length text.now + LINE_BYTES ≤ L.room line.old) }
@@ -102,7 +102,7 @@ pub fn put_output<L: Line>(line: &mut L, text: &[u8], outputs: Outputs, j: usize
     line.push(b'\n');
 }
 
-// The line of the order.
+/// The line of the order.
 #[tactic(auto, unfolding(crate::specs::Listing::order_line))]
 pub fn put_order<L: Line>(line: &mut L, order: &[usize])
     requires { NUMBER_BYTES * length order.now + ORDER_BYTES ≤ L.room line.old }
@@ -114,7 +114,7 @@ pub fn put_order<L: Line>(line: &mut L, order: &[usize])
     line.push(b'\n');
 }
 
-// Line k of the listing, and nothing else; nothing where there is none.
+/// Line k of the listing, and nothing else; nothing where there is none.
 pub fn listing_line<L: Line>(
     line: &mut L,
     text: &[u8],

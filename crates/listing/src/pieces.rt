@@ -10,7 +10,7 @@ use crate::line::Line;
 use circuit::records::{BoolNode, BoolWire, Name, wire_at, wire_count};
 use itoa::Buffer;
 
-// Bytes that are given.
+/// Bytes that are given.
 pub fn put_bytes<L: Line>(line: &mut L, bytes: &[u8])
     requires { length bytes.now ≤ L.room line.old }
     ensures written { L.written line.new ≡ L.written line.old ++ bytes.now }
@@ -20,7 +20,7 @@ pub fn put_bytes<L: Line>(line: &mut L, bytes: &[u8])
     line.extend(bytes);
 }
 
-// The digits of a number.
+/// The digits of a number.
 pub fn put_decimal<L: Line>(line: &mut L, n: usize)
     requires { DIGITS ≤ L.room line.old }
     ensures written { L.written line.new ≡ L.written line.old ++ decimal n }
@@ -30,7 +30,7 @@ pub fn put_decimal<L: Line>(line: &mut L, n: usize)
     line.extend(Buffer::new().format(n).as_bytes());
 }
 
-// A space and a number.
+/// A space and a number.
 pub fn put_number<L: Line>(line: &mut L, n: usize)
     requires { NUMBER_BYTES ≤ L.room line.old }
     ensures written { L.written line.new ≡ L.written line.old ++ word (decimal n) }
@@ -41,7 +41,7 @@ pub fn put_number<L: Line>(line: &mut L, n: usize)
     put_decimal(line, n);
 }
 
-// Numbers, each with a space before it.
+/// Numbers, each with a space before it.
 pub fn put_numbers<L: Line>(line: &mut L, numbers: &[usize])
     requires { NUMBER_BYTES * length numbers.now ≤ L.room line.old }
     ensures written { L.written line.new ≡ L.written line.old ++ words decimal numbers.now }
@@ -53,7 +53,7 @@ pub fn put_numbers<L: Line>(line: &mut L, numbers: &[usize])
     }
 }
 
-// A wire: `n` and its node's number, or `c0`, `c1`.
+/// A wire: `n` and its node's number, or `c0`, `c1`.
 pub fn put_wire<L: Line>(line: &mut L, w: BoolWire)
     requires { WIRE_BYTES ≤ L.room line.old }
     ensures written { L.written line.new ≡ L.written line.old ++ wire_bytes w }
@@ -70,7 +70,7 @@ pub fn put_wire<L: Line>(line: &mut L, w: BoolWire)
     }
 }
 
-// A space and a wire.
+/// A space and a wire.
 pub fn put_wire_word<L: Line>(line: &mut L, w: BoolWire)
     requires { 1 + WIRE_BYTES ≤ L.room line.old }
     ensures written { L.written line.new ≡ L.written line.old ++ word (wire_bytes w) }
@@ -81,7 +81,7 @@ pub fn put_wire_word<L: Line>(line: &mut L, w: BoolWire)
     put_wire(line, w);
 }
 
-// The wires of a node.
+/// The wires of a node.
 pub fn put_wires<L: Line>(line: &mut L, n: BoolNode)
     requires { WIRES_BYTES ≤ L.room line.old }
     ensures written { L.written line.new ≡ L.written line.old ++ words wire_bytes (wires_of n) }
@@ -93,7 +93,7 @@ pub fn put_wires<L: Line>(line: &mut L, n: BoolNode)
     }
 }
 
-// A stretch of the text, as far as the text goes.
+/// A stretch of the text, as far as the text goes.
 pub fn put_part<L: Line>(line: &mut L, text: &[u8], start: usize, len: usize)
     requires { length text.now ≤ L.room line.old }
     ensures written { L.written line.new ≡ L.written line.old ++ stretch text.now start len }
@@ -105,7 +105,7 @@ pub fn put_part<L: Line>(line: &mut L, text: &[u8], start: usize, len: usize)
     put_bytes(line, &text[from..end]);
 }
 
-// A name, with what stands before a wire's number.
+/// A name, with what stands before a wire's number.
 pub fn put_name<L: Line>(line: &mut L, text: &[u8], before: &[u8], name: Name)
     requires { (length before.now ≤ PREFIX_BYTES) × (length text.now + NAME_BYTES ≤ L.room line.old) }
     ensures written { L.written line.new ≡ L.written line.old ++ name_bytes text.now before.now name }

@@ -101,7 +101,7 @@ module _ (text : List ℕ) (used : ℕ) (c : Try Circuit) (J N O : List ℕ) (m 
       record {
         answer = rw is (ap₂ (λ (n o : ℕ). Ok (record { nodes = n; outputs = o })) (sym ln) (sym lo));
         joined_is = rw is joins.area;
-        nodes_is = rw is (ends.nodes_kept.clean ∙ ap (λ (k : ℕ). encodes encode_node x.nodes ++ replicate (length N - k) 0) (sym (length-encodes encode_node NODE_WORDS node_wide x.nodes ∙ ap (λ (k : ℕ). k * 9) ln)));
+        nodes_is = rw is (ends.nodes_kept.clean ∙ ap (λ (k : ℕ). encodes encode_node x.nodes ++ replicate (length N - k) 0) (sym (length-encodes encode_node NODE_WORDS node_wide x.nodes ∙ ap (λ (k : ℕ). k * NODE_WORDS) ln)));
         names_is = z;
         outputs_is = rw is (ends.outputs_kept.clean ∙ ap (λ (k : ℕ). encodes encode_output x.outputs ++ replicate (length O - k) 0) (sym (length-encodes encode_output OUTPUT_WORDS output_wide x.outputs ∙ ap (λ (k : ℕ). k * OUTPUT_WORDS) lo)));
       }

@@ -1,12 +1,13 @@
 -- Blanks, and bytes without the blanks at their ends.
 -- Assumes nothing.
 use Rattle.std.specs.Prelude.{ℕ, ◌+◌, Bool, cond, ◌&&◌, ◌||◌, not, List, [], ◌∷◌, length, eqb, leb}
+use Prim.Native.Char.{code}
 use Rattle.laws.specs.Stretches.{stretch, run}
 use Rattle.text.specs.declared.words.Word.{Word}
 
--- "Blanks are bytes 9 to 13 and 32."
+-- the blanks: a space, and what ASCII has from the tab to the carriage return
 unfoldable pub is_blank : ℕ → Bool
-is_blank b = eqb b 32 || (leb 9 b && leb b 13)
+is_blank b = eqb b (code " ") || (leb (code "\t") b && leb b (code "\r"))
 
 abbrev pub not_blank : ℕ → Bool
 not_blank b = not (is_blank b)

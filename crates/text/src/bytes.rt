@@ -22,7 +22,7 @@ pub fn is_ascii(text: &[u8]) -> bool
     usize::from(text.iter().fold(0, |high: u8, &b| high.max(b))) < ASCII_END
 }
 
-// How many bytes come before the first that passes a test; all of them if there is none.
+/// How many bytes come before the first that passes a test; all of them if there is none.
 pub fn find_where<F: Fn(u8) -> bool>(bytes: &[u8], passes: F) -> usize
     requires callable { F.IsAlwaysCallable passes }
     ensures first { (p : ℕ → Bool) → EndsRun (F.post passes) p → result ≡ run p bytes.now }
@@ -34,7 +34,7 @@ pub fn find_where<F: Fn(u8) -> bool>(bytes: &[u8], passes: F) -> usize
     }
 }
 
-// How many bytes come before the first x, byte by byte; all of them if there is none.
+/// How many bytes come before the first x, byte by byte; all of them if there is none.
 pub fn scan_byte(bytes: &[u8], x: u8) -> usize
     ensures { (result ≡ run (is_not x) bytes.now) × (result ≤ length bytes.now) }
 {
@@ -50,7 +50,7 @@ pub fn block_has(text: &[u8], x: u8, at: usize) -> bool
 }
 
 /// A place up to which there is no x: past all blocks in front that have none.
-// This, `skip_to` and `skip_to_far` take places, and no stretch, since `find_between` reads eight bytes at a time, which may lie past `end`.
+/// It takes places, and no stretch, as `skip_to` and `skip_to_far` do: the bytes that `find_between` reads may lie past `end`.
 pub fn skip_blocks(text: &[u8], x: u8, from: usize, end: usize) -> usize
     requires { (from ≤ end) × (end ≤ length text.now) }
     ensures { (result + run (is_not x) (stretch text.now result (end - result)) ≡ from + run (is_not x) (stretch text.now from (end - from))) × (result ≤ end) }
@@ -66,7 +66,7 @@ pub fn skip_blocks(text: &[u8], x: u8, from: usize, end: usize) -> usize
     i
 }
 
-// The first place of a byte, eight bytes at a time; `end` if there is none.
+/// The first place of a byte, eight bytes at a time; `end` if there is none.
 pub fn skip_to(text: &[u8], x: u8, from: usize, end: usize) -> usize
     requires { (from ≤ end) × (end ≤ length text.now) }
     ensures { (result ≡ from + run (is_not x) (stretch text.now from (end - from))) × (result ≤ end) }
@@ -83,7 +83,6 @@ pub fn skip_to(text: &[u8], x: u8, from: usize, end: usize) -> usize
 }
 
 /// The same where it is mostly far, as the end of a line is: a block at a time, then eight bytes.
-// What has none ends where the text does, so the end is an answer, and no `None`.
 pub fn skip_to_far(text: &[u8], x: u8, from: usize, end: usize) -> usize
     requires { (from ≤ end) × (end ≤ length text.now) }
     ensures { (result ≡ from + run (is_not x) (stretch text.now from (end - from))) × (result ≤ end) }
@@ -92,7 +91,7 @@ pub fn skip_to_far(text: &[u8], x: u8, from: usize, end: usize) -> usize
     skip_to(text, x, i, end)
 }
 
-// The place of the first x in a word, if there is one.
+/// The place of the first x in a word, if there is one.
 #[tactic(auto, unfolding(crate::specs::Bytes::first_place))]
 pub fn find_byte(text: &[u8], x: u8, word: Word) -> Option<usize>
     requires { word.start + word.len ≤ length text.now }
@@ -103,7 +102,7 @@ pub fn find_byte(text: &[u8], x: u8, word: Word) -> Option<usize>
     if at < end { Some(at) } else { None }
 }
 
-// Whether bytes are these capital letters, in any case of their own.
+/// Whether bytes are these capital letters, in any case of their own.
 pub fn is_named(bytes: &[u8], letters: &[u8]) -> bool
     ensures { result ≡ is_named bytes.now letters.now }
 {

@@ -24,7 +24,7 @@ pub struct Limits {
     ghost ascii: { (low < ASCII_END) × (high < ASCII_END) },
 }
 
-// Eight bytes as one number.
+/// Eight bytes as one number.
 pub fn eight_bytes(text: &[u8], at: usize) -> usize
     requires { at + 8 ≤ length text.now }
     ensures { result ≡ eight_at text.now at }
@@ -48,7 +48,7 @@ pub fn is_between(b: usize, low: usize, high: usize) -> bool
     low <= b && b <= high
 }
 
-// How many bytes come before the first from `low` to `high`, byte by byte; all of them if there is none.
+/// How many bytes come before the first from `low` to `high`, byte by byte; all of them if there is none.
 pub fn scan_between(bytes: &[u8], low: usize, high: usize) -> usize
     ensures { (result ≡ run (outside low high) bytes.now) × (result ≤ length bytes.now) }
 {
@@ -82,7 +82,7 @@ pub fn before_between(text: &[u8], limits: Limits, at: usize) -> Option<usize>
 }
 
 /// The first place of a byte between limits, eight bytes at a time while there are eight in the text, all ASCII.
-// It takes places, and no stretch, since the eight may lie past `end`.
+/// The eight may lie past `end`.
 // Nothing that walks the same eight bytes one by one may stand in the loop: the compiler would then load each by itself.
 pub fn find_between(text: &[u8], limits: Limits, from: usize, end: usize) -> usize
     requires { (from ≤ end) × (end ≤ length text.now) }

@@ -10,8 +10,7 @@ use crate::bytes::skip_to_far;
 use crate::lines::{KeptLines, Lines, kept_line};
 use crate::words::{Word, Words};
 
-// The words between two places, one after the other, as `for word in words_between(text, from, end)` takes them.
-// Between places, and of no stretch: the words are told by their places in the text, and `find_blank` may read past `end`.
+/// The words between two places, one after the other, as `for word in words_between(text, from, end)` takes them.
 pub fn words_between(text: &[u8], from: usize, end: usize) -> Words
     requires { (from ≤ end) × (end ≤ length text.now) }
     ensures places { (result.text.now ≡ text.now) × (result.at ≡ from) × (result.end ≡ end) }
@@ -46,7 +45,7 @@ impl<'a> Iterator for Words<'a> {
     }
 }
 
-// The lines of a text, one after the other.
+/// The lines of a text, one after the other.
 pub fn lines_of(text: &[u8]) -> Lines
     ensures places { (result.text.now ≡ text.now) × (result.at ≡ 0) }
     ensures all { lines_left result ≡ lines 0 text.now }
@@ -75,7 +74,7 @@ impl<'a> Iterator for Lines<'a> {
     }
 }
 
-// The kept lines of a text, one after the other.
+/// The kept lines of a text, one after the other.
 pub fn kept_lines(text: &[u8]) -> KeptLines
     ensures { kept_left result ≡ kept_lines text.now }
 {

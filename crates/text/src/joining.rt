@@ -11,14 +11,14 @@ use crate::iterators::lines_of;
 use crate::lines::{kept_before, next_comment};
 use crate::words::Word;
 
-// Whether a line ends in `\`.
+/// Whether a line ends in `\`.
 pub fn is_continued(line: &[u8]) -> bool
     ensures { result ≡ continued line.now }
 {
     line.ends_with(b"\\")
 }
 
-// What of a kept line goes into the joined text.
+/// What of a kept line goes into the joined text.
 pub fn part(line: &[u8]) -> &[u8]
     ensures { result.now ≡ part line.now }
 {
@@ -28,8 +28,7 @@ pub fn part(line: &[u8]) -> &[u8]
     }
 }
 
-// One byte, if there is one; where the writing goes on.
-// The area is lent, as there is no heap, so where the writing stands goes beside it: a struct of both would promise at each call that its area is still the same one.
+/// Writes one byte, if there is one, from `out` on: where the writing goes on.
 #[tactic(auto, unfolding(crate::specs::Writing::one_or_none))]
 pub fn put_if(joined: &mut [u8], out: usize, b: Option<u8>) -> usize
     requires { out + length (one_or_none b) ≤ length joined.old }
@@ -44,7 +43,7 @@ pub fn put_if(joined: &mut [u8], out: usize, b: Option<u8>) -> usize
     }
 }
 
-// Bytes; where the writing goes on.
+/// Writes bytes from `out` on: where the writing goes on.
 pub fn put_bytes(joined: &mut [u8], out: usize, bytes: &[u8]) -> usize
     requires { out + length bytes.now ≤ length joined.old }
     ensures { Puts joined.old joined.new out result bytes.now }
@@ -54,21 +53,21 @@ pub fn put_bytes(joined: &mut [u8], out: usize, bytes: &[u8]) -> usize
     end
 }
 
-// Where the writing stands: how many bytes are written, and whether something is gathered.
+/// Where the writing stands: how many bytes are written, and whether something is gathered.
 #[derive(Clone, Copy)]
 pub struct Put {
     pub out: usize,
     pub gathered: bool,
 }
 
-// Whether something is gathered after a kept line, of which `n` bytes went into the joined text.
+/// Whether something is gathered after a kept line, of which `n` bytes went into the joined text.
 pub fn still_gathered(more: bool, gathered: bool, n: usize) -> bool
     ensures { result ≡ (more && (gathered || not (eqb n 0))) }
 {
     more && (gathered || n != 0)
 }
 
-// A kept line: a space before it if something is gathered, and byte 10 after it unless it is continued.
+/// A kept line: a space before it if something is gathered, and byte 10 after it unless it is continued.
 pub fn put_line(joined: &mut [u8], put: Put, line: &[u8]) -> Put
     requires { put.out + length (added put.gathered line.now) ≤ length joined.old }
     ensures { Puts joined.old joined.new put.out result.out (added put.gathered line.now) × (result.gathered ≡ still put.gathered line.now) }
@@ -87,7 +86,7 @@ pub fn put_line(joined: &mut [u8], put: Put, line: &[u8]) -> Put
     }
 }
 
-// A raw line; the first `#` from its start on stands at `comment`, which may lie past its end.
+/// A raw line; the first `#` from its start on stands at `comment`, which may lie past its end.
 pub fn put_raw(joined: &mut [u8], put: Put, text: &[u8], line: Word, comment: usize) -> Put
     requires line_in_bounds { (line.start + line.len ≤ length text.now) × FirstComment text.now line.start comment }
     requires from_in_bounds { put.out + length (added_by put.gathered (stretch text.now line.start line.len)) ≤ length joined.old }
@@ -100,7 +99,7 @@ pub fn put_raw(joined: &mut [u8], put: Put, text: &[u8], line: Word, comment: us
     put_line(joined, put, kept.bytes(text))
 }
 
-// The joined text in front of the area, and how long it is.
+/// The joined text in front of the area, and how long it is.
 pub fn put_lines(text: &[u8], joined: &mut [u8]) -> usize
     requires { length text.now < length joined.old }
     ensures { (take result joined.new ≡ joined_text text.now) × (result ≤ length text.now + 1) }
@@ -118,7 +117,7 @@ pub fn put_lines(text: &[u8], joined: &mut [u8]) -> usize
     put_if(joined, put.out, line_end)
 }
 
-// The joined text, zeros after it; how long it is.
+/// The joined text, zeros after it; how long it is.
 pub fn logical_lines(text: &[u8], joined: &mut [u8]) -> usize
     requires { length text.now < length joined.old }
     ensures { Joins text.now (length joined.old) result joined.new }

@@ -6,7 +6,7 @@ ghost use Rattle.text.specs.Words.{between};
 
 use crate::blanks::{skip_blanks, trim_end};
 
-// A stretch of a text. It goes beside its text: with the text inside, records of several words would say of each that its text is the same.
+/// A stretch of a text, which goes beside it.
 #[derive(Clone, Copy)]
 pub struct Word {
     pub start: usize,
@@ -14,7 +14,7 @@ pub struct Word {
 }
 
 impl Word {
-    // The stretch from one place up to another.
+    /// The stretch from one place up to another.
     pub fn between(from: usize, end: usize) -> Word
         requires { from ≤ end }
         ensures { result ≡ between from end }
@@ -25,7 +25,7 @@ impl Word {
         }
     }
 
-    // Its bytes.
+    /// Its bytes.
     #[tactic(auto, unfolding(laws::specs::Stretches::stretch))]
     pub fn bytes(self, text: &[u8]) -> &[u8]
         requires { self.start + self.len ≤ length text.now }
@@ -35,7 +35,7 @@ impl Word {
     }
 }
 
-// The words between two places, as an iterator gives them: those from `at` on are still to come.
+/// The words between two places, as an iterator gives them: those from `at` on are still to come.
 #[derive(Clone, Copy)]
 pub struct Words<'a> {
     pub text: &'a [u8],
@@ -44,7 +44,7 @@ pub struct Words<'a> {
     ghost inside: { (at ≤ end) × (end ≤ length text.now) },
 }
 
-// A stretch without the blanks at its ends.
+/// A stretch without the blanks at its ends.
 pub fn trim(text: &[u8], word: Word) -> Word
     requires { word.start + word.len ≤ length text.now }
     ensures { (result ≡ trimmed text.now word) × (word.start ≤ result.start) × (result.start + result.len ≤ word.start + word.len) }
