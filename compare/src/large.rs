@@ -1,11 +1,11 @@
-//! Circuits of some 60 to 3,000 cells, and a few of 20,000 and 70,000, on both sides. What is only met there: the schedule's second
-//! part, which keeps the best of many ready cells in a tree, and the kinds of steps by which a run goes through a long list. So of each circuit the orders at
+//! Circuits of some 60 to 3,000 cells, and a few of 20,000 to 140,000, on both sides. What is only met there: the schedule's second
+//! part, which keeps the best of many ready cells in a tree, and the larger marks by which a run tests its list. So of each circuit the orders at
 //! windows around each bound are compared, with keys of which many are equal; an order is run, without and with unknown inputs;
 //! altered orders (20), a broken record (15) and a forward read (16), each at a random place, must give their number and zeros.
 use crate::circuits::{break_record, broken, faulty, words};
 use crate::generate::Random;
 use crate::library::{self, Area, Records};
-use crate::reference::{BoolCircuit, BoolNode, BoolWire};
+use crate::reference::{BoolCircuit, BoolNode};
 use crate::runs;
 use crate::shapes::{self, NUMBERINGS, Numbering, SHAPES, Shape};
 
@@ -23,35 +23,30 @@ pub struct Seen {
     pub orders: usize,
     /// orders of which the tree took some cells, by the window
     pub ranked: Vec<usize>,
-    /// circuits that were run, and by which steps
+    /// circuits that were run, by how many marks their lists were tested
     pub runs: usize,
-    pub steps: Steps,
-    /// circuits besides, run alone, whose runs look at records ahead
+    pub marks: Marks,
+    /// circuits besides that were run alone
     pub far: usize,
     /// orders that were refused by the run (20)
     pub unfit: usize,
 }
 
-/// The runs of each kind of steps.
+/// The runs by how many marks their lists were tested (crates/runs/src/fitness.rt).
 #[derive(Default)]
-pub struct Steps {
-    /// every cell has two wires of nodes
-    pub plain: usize,
-    /// the first other cell stands behind the first stretch of the list
-    pub given_up: usize,
-    /// other cells' wires are found by their count
-    pub counted: usize,
+pub struct Marks {
+    /// up to 4,096 nodes
+    pub few: usize,
+    /// up to 131,072
+    pub many: usize,
+    /// more
+    pub most: usize,
 }
 
-impl Steps {
-    /// By crates/runs/src/ahead.rt the first stretch has 16 entries, and a branch on the count is avoided above 4,096 nodes where one of
-    /// 32 that stand evenly apart has one wire.
-    fn of(circuit: &BoolCircuit, list: &[usize]) -> Self {
+impl Marks {
+    fn of(circuit: &BoolCircuit) -> Self {
         let count = circuit.nodes.len();
-        let plain = |id: &usize| circuit.nodes[*id].inputs().len() == 2 && circuit.nodes[*id].inputs().iter().all(|wire| matches!(wire, BoolWire::Node(_)));
-        let first = list.iter().position(|id| !plain(id));
-        let guessed = count <= 4_096 || (0..count).step_by(count / 32).all(|id| circuit.nodes[id].inputs().len() != 1);
-        Self { plain: usize::from(first.is_none()), given_up: usize::from(first.is_some_and(|at| at >= 16)), counted: usize::from(first.is_some() && !guessed) }
+        Self { few: usize::from(count <= 4_096), many: usize::from((4_097..=131_072).contains(&count)), most: usize::from(count > 131_072) }
     }
 }
 
@@ -63,17 +58,17 @@ impl Seen {
         self.orders += other.orders;
         self.ranked.extend(other.ranked);
         self.runs += other.runs;
-        self.steps.plain += other.steps.plain;
-        self.steps.given_up += other.steps.given_up;
-        self.steps.counted += other.steps.counted;
+        self.marks.few += other.marks.few;
+        self.marks.many += other.marks.many;
+        self.marks.most += other.marks.most;
         self.far += other.far;
         self.unfit += other.unfit;
     }
 
-    /// The kinds of steps by which no circuit was run.
-    pub fn untaken(&self) -> Vec<&'static str> {
-        let steps = [("plain", self.steps.plain), ("given up", self.steps.given_up), ("counted", self.steps.counted)];
-        steps.into_iter().filter(|(_, runs)| *runs == 0).map(|(word, _)| word).collect()
+    /// The sizes of marks by which no list was tested.
+    pub fn untested(&self) -> Vec<&'static str> {
+        let marks = [("few", self.marks.few), ("many", self.marks.many), ("most", self.marks.most)];
+        marks.into_iter().filter(|(_, runs)| *runs == 0).map(|(word, _)| word).collect()
     }
 
     /// The windows that lead to the tree and at which it took no cell.
@@ -219,11 +214,10 @@ pub fn compare(random: &mut Random, number: usize, cells: usize) -> Result<Seen,
     })
 }
 
-/// Runs of a circuit of more than 65,536 nodes, above which a run looks at records ahead where a list jumps (crates/runs/src/ahead.rt):
-/// along the storage order and along the library's order for some window, without and with unknown inputs, and along altered orders. The
-/// reference does not order it, which takes it long.
-pub fn compare_far(random: &mut Random) -> Result<Seen, String> {
-    let circuit = shapes::circuit(random, Shape::Layered, Numbering::Stored, 70_000);
+/// Runs of a circuit of so many cells: along the storage order and along the library's order for some window, without and with unknown
+/// inputs, and along altered orders. The reference does not order it, which takes it long.
+pub fn compare_far(random: &mut Random, cells: usize) -> Result<Seen, String> {
+    let circuit = shapes::circuit(random, Shape::Layered, Numbering::Stored, cells);
     let (nodes, outputs) = words(&circuit);
     let records = Records { nodes: &nodes, outputs: &outputs };
     let [mut ready, mut successors, mut order] = runs::schedule_areas(circuit.nodes.len());
@@ -240,7 +234,7 @@ pub fn compare_far(random: &mut Random) -> Result<Seen, String> {
     }
     let assignment: Vec<u8> = circuit.inputs.iter().map(|_| random.below(2) as u8).collect();
     let unfit = unfit(random, &circuit, records, list, &assignment)?;
-    Ok(Seen { steps: Steps::of(&circuit, list), far: 1, unfit, ..Seen::default() })
+    Ok(Seen { marks: Marks::of(&circuit), far: 1, unfit, ..Seen::default() })
 }
 
 fn compare_circuit(random: &mut Random, circuit: &BoolCircuit, cells: usize) -> Result<Seen, String> {
@@ -272,7 +266,7 @@ fn compare_circuit(random: &mut Random, circuit: &BoolCircuit, cells: usize) -> 
         runs::unknowns(circuit, records, &lists[random.below(lists.len())])?;
         runs::refusals(circuit, records, &list)?;
         seen.runs = 1;
-        seen.steps = Steps::of(circuit, &list);
+        seen.marks = Marks::of(circuit);
         seen.unfit = unfit(random, circuit, records, &list, &assignment)?;
         forward_read(random, circuit, records, &list, &assignment)?;
     } else {

@@ -132,12 +132,12 @@ fn random_texts(programs: &Path, count: usize, seed: u64) -> Report {
         let cells = 20_000 + random.below(1000);
         report.add_large(large::compare(&mut random, number, cells));
     }
-    for _ in 0..(count / FARTHEST_PART).max(2) {
-        report.add_large(large::compare_far(&mut random));
+    for number in 0..(count / FARTHEST_PART).max(2) {
+        report.add_large(large::compare_far(&mut random, if number % 2 == 0 { 70_000 } else { 140_000 }));
     }
     report.require_numbers();
     report.require_windows();
-    report.require_steps();
+    report.require_marks();
     report
 }
 

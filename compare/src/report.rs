@@ -54,10 +54,10 @@ impl Report {
         }
     }
 
-    /// Runs were made by every kind of steps.
-    pub fn require_steps(&mut self) {
-        for word in self.large.untaken() {
-            self.differences.push((usize::MAX, format!("large circuits: no run is by the steps called {word}")));
+    /// Lists were tested by marks of every size.
+    pub fn require_marks(&mut self) {
+        for word in self.large.untested() {
+            self.differences.push((usize::MAX, format!("large circuits: no list is tested by the marks called {word}")));
         }
     }
 
@@ -95,9 +95,9 @@ impl Report {
             println!("random circuits, {}: {}", self.circuits.values().sum::<usize>(), parts.join(", "));
         }
         if self.large.circuits > 0 {
-            let Seen { circuits, circles, forward, orders, ranked, runs, steps, far, unfit } = &self.large;
+            let Seen { circuits, circles, forward, orders, ranked, runs, marks, far, unfit } = &self.large;
             println!("large circuits, {circuits}: ordered {}, 17: {circles}; run {runs}, 16: {forward}; each with a record broken, 15", circuits - circles);
-            println!("runs of large circuits, {}: all cells with two wires of nodes {}, the first other one behind 16 entries {}, wires by their count {}, of more than 65,536 nodes {far}", runs + far, steps.plain, steps.given_up, steps.counted);
+            println!("runs of large circuits, {}: of up to 4,096 nodes {}, of up to 131,072 {}, of more {}", runs + far, marks.few, marks.many, marks.most);
             println!("orders of large circuits, {orders}: with cells that the tree took {}; altered orders that the run refused, 20: {unfit}", ranked.len());
         }
         if let Some((_, what)) = self.differences.iter().min_by_key(|(len, _)| *len) {
