@@ -19,7 +19,7 @@ use Rattle.text.specs.declared.words.Word.{Word}
 use Rattle.names.specs.Names.{Entry, name_of, lookup}
 use Rattle.cover.specs.Cover.{last_of}
 use Rattle.reading.specs.Reading.{Places, Held, find, driver, add_alias, add_named, each}
-use Rattle.blif.specs.Blif.{drivers, input_names, cell_node, gate, names_line}
+use Rattle.blif.specs.Blif.{drivers, input_names, gate_cell, gate, names_line}
 use Rattle.blif.proofs.Accepted.{names-yes}
 use Rattle.placing.specs.Promises.{stands_among, accepts}
 use Rattle.placing.proofs.Filed.{as-filed, from-number}
@@ -66,10 +66,10 @@ unfolding gate
 gate-names t p out [] table h h' q = ap (known t) (sym (alias_made p out table h h' q))
 gate-names t p out (x ∷ []) table h h' q = go (eqb table 2) q
   where
-    go : (b : Bool) → cond b (add_alias p out x h) (add_named p out (cell_node out (x ∷ []) table) h) ≡ Ok h' → known t h' ≡ bytes_of t out ∷ known t h
+    go : (b : Bool) → cond b (add_alias p out x h) (add_named p out (gate_cell out (x ∷ []) table) h) ≡ Ok h' → known t h' ≡ bytes_of t out ∷ known t h
     go true r = ap (known t) (sym (alias_made p out x h h' r))
-    go false r = ap (known t) (sym (named_made p out (cell_node out (x ∷ []) table) h h' r))
-gate-names t p out (x ∷ y ∷ ys) table h h' q = ap (known t) (sym (named_made p out (cell_node out (x ∷ y ∷ ys) table) h h' q))
+    go false r = ap (known t) (sym (named_made p out (gate_cell out (x ∷ []) table) h h' r))
+gate-names t p out (x ∷ y ∷ ys) table h h' q = ap (known t) (sym (named_made p out (gate_cell out (x ∷ y ∷ ys) table) h h' q))
 
 accepted-lines : (t : List ℕ) (p : Places) (ls : List NamesLine) (h h' : Held) → gates_of t p ls h ≡ Ok h' → accepts (known t h) (map (definition_of t) ls) ≡ true
 unfolding gates_of each accepts definition_of find
