@@ -6,16 +6,15 @@ use mathlib.Core.List.{List, [], ◌∷◌, ◌++◌}
 use mathlib.Core.Bool.{true, false, not}
 use Prim.Native.Nat.{ℕ, ◌/◌, ◌<◌, ◌≤◌}
 use native.Mathlib.Omega.{arith}
-use lib.Dec.{eqb, ltb}
+use lib.Dec.{eqb}
 use borrow.Author.Tests.{eqb-true, not-false}
 use lib.ListN.{length}
 use Rattle.std.proofs.lemmas.Bool.{and_parts}
-use Rattle.laws.specs.Lists.{some}
 use Rattle.laws.specs.Stretches.{All}
 use Rattle.circuit.specs.declared.records.TheConstants.{NODE_WORDS}
 use Rattle.circuit.specs.declared.refusals.Refusal.{Refusal}
 use Rattle.circuit.specs.declared.refusals.Refusal.TheVariants.{WrongValues, UnfitOrder}
-use Rattle.circuit.specs.Refusals.{Try, Checked, refuse_if, first_fault}
+use Rattle.circuit.specs.Refusals.{Try, refuse_if}
 use Rattle.circuit.specs.Records.{node_at, nodes_of, is_cell_node, wires_of}
 use Rattle.circuit.specs.Check.{some_not_below, node_broken, whole, check_nodes, check_circuit, nodes_in, wires_in, topological_fault}
 use Rattle.circuit.specs.Graph.{graph_of}
@@ -24,12 +23,11 @@ use Rattle.graphs.proofs.Graph.{ready-waits, waits-cell, cell_below}
 use Rattle.circuit.proofs.Codes.{node_of, length_nodes}
 use Rattle.circuit.proofs.Checks.{no_fault, not_refused, all_below_more}
 use Rattle.circuit.proofs.Circuits.{cell-at, length_graph}
-use Rattle.values.specs.Assignments.{input_count}
-use Rattle.values.specs.Calls.{assignment_fault, assigned_fault, room_fault}
+use Rattle.values.specs.Assignments.{input_count, wrong_assignment}
+use Rattle.values.specs.Calls.{assignment_fault, room_fault}
 use Rattle.values.specs.Inner.{SoundCell}
 use Rattle.values.proofs.Inputs.{assigned}
-use Rattle.values.proofs.Calls.{Room, room_of, assigned_then}
-use Rattle.runs.specs.Fit.{Accepted}
+use Rattle.values.proofs.Calls.{Room, room_of}
 use Rattle.runs.specs.Calls.{order_fault, run_fault}
 use Rattle.runs.specs.Inner.{SoundCells, cells_or_fault}
 use Rattle.runs.proofs.Entries.{accepted_at}
@@ -45,45 +43,26 @@ module _ (nodes outputs : List ℕ) (e : topological_fault nodes outputs ≡ Ok 
       let size = length_nodes nodes (length nodes / NODE_WORDS) in
       (ap (λ (m : ℕ). check_nodes m 0 (nodes_in nodes)) (sym size) ∙ parts.0, ap (λ (m : ℕ). some_not_below m (wires_in outputs)) (sym size) ∙ not_refused _ _ parts.1)
 
-  pub accepted_nodes : Accepted nodes (length nodes / NODE_WORDS)
-  accepted_nodes = record { room = omega arith; accepted = checked.0 }
-
-  pub outputs_wired : some_not_below (length nodes / NODE_WORDS) (wires_in outputs) ≡ false
-  outputs_wired = checked.1
-
-pub assigned_parts : (top : ℕ) (nodes outputs assignment : List ℕ) → assigned_fault top nodes outputs assignment ≡ Ok tt
-    → (topological_fault nodes outputs ≡ Ok tt) × (length assignment ≡ input_count (nodes_in nodes)) × (some (ltb top) assignment ≡ false)
-unfolding assignment_fault
-assigned_parts top nodes outputs assignment h =
-    let p = no_fault (topological_fault nodes outputs) (assignment_fault top nodes assignment) h in
-    let a = assigned top (nodes_in nodes) assignment (not_refused _ WrongValues p.1) in
-    (p.0, a.0, a.1)
-
 -- ---- the first refusal
 
 module _ (nodes outputs order assignment : List ℕ) (store answers : ℕ) where
-  -- what is looked at after the assignment
-  abbrev listed : Checked
-  listed = first_fault (order_fault nodes order) (room_fault nodes outputs store answers)
-
-  in_turn : first_fault (assigned_fault 2 nodes outputs assignment) listed ≡ run_fault nodes outputs order assignment store answers
+  pub run_unchecked : (r : Refusal) → Err r ≡ topological_fault nodes outputs → Err r ≡ run_fault nodes outputs order assignment store answers
   unfolding run_fault
-  in_turn = assigned_then 2 nodes outputs assignment listed
+  run_unchecked r e = rw (sym e)
 
-  pub run_unassigned : (r : Refusal) → Err r ≡ assigned_fault 2 nodes outputs assignment → Err r ≡ run_fault nodes outputs order assignment store answers
-  run_unassigned r e = ap (λ (f : Checked). first_fault f listed) e ∙ in_turn
+  module _ (e : Ok tt ≡ topological_fault nodes outputs) where
+    pub run_unassigned : true ≡ wrong_assignment 2 (nodes_in nodes) assignment → Err WrongValues ≡ run_fault nodes outputs order assignment store answers
+    unfolding run_fault assignment_fault
+    run_unassigned a = rw (sym e, sym a)
 
-  module _ (e : Ok tt ≡ assigned_fault 2 nodes outputs assignment) where
-    run_then : listed ≡ run_fault nodes outputs order assignment store answers
-    run_then = ap (λ (f : Checked). first_fault f listed) e ∙ in_turn
+    module _ (a : false ≡ wrong_assignment 2 (nodes_in nodes) assignment) where
+      pub run_unfit : false ≡ fit_list (graph_of (nodes_in nodes)) order → Err UnfitOrder ≡ run_fault nodes outputs order assignment store answers
+      unfolding run_fault assignment_fault order_fault
+      run_unfit f = rw (sym e, sym a, sym f)
 
-    pub run_unfit : false ≡ fit_list (graph_of (nodes_in nodes)) order → Err UnfitOrder ≡ run_fault nodes outputs order assignment store answers
-    unfolding order_fault
-    run_unfit f = let r : Err UnfitOrder ≡ listed = rw (sym f) in r ∙ run_then
-
-    pub run-fit : true ≡ fit_list (graph_of (nodes_in nodes)) order → room_fault nodes outputs store answers ≡ run_fault nodes outputs order assignment store answers
-    unfolding order_fault
-    run-fit f = let r : room_fault nodes outputs store answers ≡ listed = rw (sym f) in r ∙ run_then
+      pub run-fit : true ≡ fit_list (graph_of (nodes_in nodes)) order → room_fault nodes outputs store answers ≡ run_fault nodes outputs order assignment store answers
+      unfolding run_fault assignment_fault order_fault
+      run-fit f = rw (sym e, sym a, sym f)
 
 -- ---- an accepted run
 
@@ -99,7 +78,7 @@ each : (P Q : ℕ → Type 0) → ((x : ℕ) → P x → Q x) → (xs : List ℕ
 each P Q f [] h = tt
 each P Q f (x ∷ xs) h = (f x h.0, each P Q f xs h.1)
 
-module _ (nodes : List ℕ) (m store : ℕ) (ok : Accepted nodes m) (h : m ≤ store) where
+module _ (nodes : List ℕ) (m store : ℕ) (ok : check_nodes m 0 (nodes_of nodes m) ≡ Ok tt) (h : m ≤ store) where
   entry_sound : (x : ℕ) → is_cell (graph_of (nodes_of nodes m)) x ≡ true → (x < m) × SoundCell store (node_at nodes x)
   unfolding node_broken
   entry_sound x e =
@@ -134,8 +113,8 @@ module _ (nodes outputs order assignment : List ℕ) (store answers : ℕ) where
       record {
         room = room;
         inputs = (assigned 2 (nodes_in nodes) assignment (not_refused _ WrongValues q.0)).0;
-        sound = order_sound nodes m store (accepted_nodes nodes outputs p.0) room.store_room order f.0;
-        wired = all_below_more m store room.store_room (wires_in outputs) (outputs_wired nodes outputs p.0);
+        sound = order_sound nodes m store (checked nodes outputs p.0).0 room.store_room order f.0;
+        wired = all_below_more m store room.store_room (wires_in outputs) (checked nodes outputs p.0).1;
         cells = eqb-true (length order) (length (cells_of c)) f.1;
       }
 

@@ -1,5 +1,6 @@
 -- One pass over a list, an entry at a time, and how many entries a fit list has.
 -- Assumes nothing.
+use Rattle.std.specs.Prelude.{Ok}
 use mathlib.Core.Path.{◌≡◌, refl, sym, ap, ap₂, ◌∙◌, subst}
 use mathlib.Core.List.{List, [], ◌∷◌, ◌++◌, append_assoc}
 use mathlib.Core.Bool.{Bool, true, false, cond, ◌&&◌}
@@ -17,18 +18,19 @@ use Rattle.circuit.specs.declared.records.BoolNode.{BoolNode}
 use Rattle.circuit.specs.Records.{node_at, nodes_of, is_cell_node, no_node}
 use Rattle.graphs.specs.Graph.{Vertex, is_cell, cells_of, fit, fit_list}
 use Rattle.circuit.specs.Graph.{graph_of}
+use Rattle.circuit.specs.Check.{check_nodes}
 use Rattle.circuit.proofs.Codes.{node_of, length_nodes}
 use Rattle.circuit.proofs.Checks.{Passed, nodes_passed}
 use Rattle.circuit.proofs.Circuits.{cell-at, length_graph}
 use Rattle.values.specs.Assignments.{input_count}
-use Rattle.runs.specs.Fit.{ready_in, fit_in, Accepted}
+use Rattle.runs.specs.Fit.{ready_in, fit_in}
 
 -- ---- accepted nodes
 
-module _ (nodes : List ℕ) (count : ℕ) (ok : Accepted nodes count) where
+module _ (nodes : List ℕ) (count : ℕ) (ok : check_nodes count 0 (nodes_of nodes count) ≡ Ok tt) where
   pub accepted_at : (x : ℕ) → x < count → Passed count x (node_at nodes x)
   accepted_at x h =
-      let p = nodes_passed count 0 (nodes_of nodes count) x ok.accepted (omega (arith, length_nodes nodes count)) in
+      let p = nodes_passed count 0 (nodes_of nodes count) x ok (omega (arith, length_nodes nodes count)) in
       subst (λ (k : ℕ). Passed count k (node_at nodes x)) (zero-add x) (subst (λ (n : BoolNode). Passed count (0 + x) n) (node_of nodes count x h) p)
 
 -- ---- one pass over a list

@@ -1,14 +1,12 @@
 -- Fitness of an order list, looked at for the nodes of one block at a time, by a mark for each of them. Of the crate's own functions: no promise of the exported
 -- call speaks of it.
 -- Assumes nothing.
-use Rattle.std.specs.Prelude.{◌≡◌, List, [], ◌∷◌, ◌++◌, Bool, true, false, if◌then◌else◌, not, ◌&&◌, ℕ, ◌+◌, ◌-◌, ◌*◌, ◌/◌, ◌%◌, ◌<◌, ◌≤◌, ◌==◌, leb, ltb, length, get_or, Ok}
+use Rattle.std.specs.Prelude.{◌≡◌, List, [], ◌∷◌, ◌++◌, Bool, true, false, if◌then◌else◌, not, ◌&&◌, ℕ, ◌+◌, ◌-◌, ◌*◌, ◌/◌, ◌%◌, ◌<◌, ◌==◌, leb, ltb, length, get_or}
 use Rattle.laws.specs.Bits.{bit}
 use Rattle.laws.specs.Lists.{elem, some}
 use Rattle.circuit.specs.declared.records.BoolWire.{BoolWire}
 use Rattle.circuit.specs.declared.records.BoolWire.TheVariants.{Const, Node}
-use Rattle.circuit.specs.declared.records.TheConstants.{NODE_WORDS}
 use Rattle.circuit.specs.Records.{node_at, nodes_of, is_cell_node}
-use Rattle.circuit.specs.Check.{check_nodes}
 use Rattle.circuit.specs.Graph.{graph_of}
 use Rattle.graphs.specs.Graph.{Vertex, is_cell, reads_of, waits}
 use Rattle.runs.specs.declared.fitness.TheConstants.{WORD_MARKS}
@@ -56,11 +54,6 @@ wire_waits nodes lo marks (Node n) = waits_here nodes lo marks n.0
 -- Some wire is.
 abbrev pub some_waits : List ℕ → ℕ → List ℕ → List BoolWire → Bool
 some_waits nodes lo marks ws = some (wire_waits nodes lo marks) ws
-
--- Node records that the circuit check accepts.
-pub record Accepted (nodes : List ℕ) (count : ℕ) : Type 0 where
-  pub room : count * NODE_WORDS ≤ length nodes
-  pub accepted : check_nodes count 0 (nodes_of nodes count) ≡ Ok tt
 
 -- The list is fit, as far as the block tells.
 abbrev pub fit_here : List ℕ → ℕ → ℕ → ℕ → List ℕ → Bool

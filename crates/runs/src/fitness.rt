@@ -6,9 +6,10 @@ ghost use Rattle.circuit.specs.Check.{not_below, some_not_below};
 ghost use Rattle.circuit.specs.Graph.{graph_of};
 ghost use Rattle.graphs.specs.Graph.{fit, fit_list};
 ghost use Rattle.values.specs.Assignments.{input_count};
-ghost use Rattle.runs.specs.Fit.{within, block_size, fit_here, Marks, waits_here, wire_waits, some_waits, Accepted, MarkSet, EntryTaken};
+ghost use Rattle.runs.specs.Fit.{within, block_size, fit_here, Marks, waits_here, wire_waits, some_waits, MarkSet, EntryTaken};
 
 use cells::{set_table_entry, table_entry};
+use circuit::checked::CheckedCircuit;
 use circuit::nodes::Nodes;
 use circuit::records::{BoolWire, wire_count};
 
@@ -23,13 +24,6 @@ const MANY_WORDS: usize = 2048;
 
 /// The words of marks for a larger one, 128 KB: a pass over the list for each 1,048,576 nodes, as many as a reader makes. Two passes take a fifth longer.
 const MOST_WORDS: usize = 16_384;
-
-/// Nodes that the circuit check accepts.
-#[derive(Clone, Copy)]
-pub struct CheckedNodes<'a> {
-    pub nodes: Nodes<'a>,
-    ghost accepted: { Accepted nodes.words.now nodes.count },
-}
 
 /// The word and the bit of node x's mark, if it is of the block from `lo` on.
 fn mark_place(x: usize, lo: usize, marks: &[usize]) -> Option<(usize, usize)>
@@ -90,10 +84,10 @@ pub fn mark(x: usize, lo: usize, marks: &mut [usize]) -> Option<()>
 }
 
 /// Takes one entry of a list: as far as the block tells, it is a cell that was not taken, and the cells that it reads were. It is marked.
-pub fn take_entry(checked: CheckedNodes, x: usize, lo: usize, marks: &mut [usize]) -> Option<()>
-    ensures { EntryTaken checked.entry.nodes.words.now checked.entry.nodes.count x lo marks.old (is_some result) marks.new }
+pub fn take_entry(circuit: CheckedCircuit, x: usize, lo: usize, marks: &mut [usize]) -> Option<()>
+    ensures { EntryTaken circuit.entry.nodes.words.now circuit.entry.nodes.count x lo marks.old (is_some result) marks.new }
 {
-    let nodes = checked.nodes;
+    let nodes = circuit.nodes;
     if nodes.count <= x || !nodes.is_cell(x) || some_waits(nodes, x, lo, marks) {
         return None;
     }
@@ -102,16 +96,16 @@ pub fn take_entry(checked: CheckedNodes, x: usize, lo: usize, marks: &mut [usize
 
 /// Takes the entries of a list in turn.
 pub fn take_entries(
-    checked: CheckedNodes,
+    circuit: CheckedCircuit,
     order: &[usize],
     lo: usize,
     marks: &mut [usize],
 ) -> Option<()>
     requires { Marks lo marks.old [] }
-    ensures { is_some result ≡ fit_here checked.entry.nodes.words.now checked.entry.nodes.count lo (block_size marks.old) order.now }
+    ensures { is_some result ≡ fit_here circuit.entry.nodes.words.now circuit.entry.nodes.count lo (block_size marks.old) order.now }
 {
     for x in order {
-        take_entry(checked, *x, lo, marks)?;
+        take_entry(circuit, *x, lo, marks)?;
     }
     Some(())
 }
@@ -119,43 +113,43 @@ pub fn take_entries(
 /// One pass over the list, with marks for the nodes from `lo` on.
 // Not inlined: in the exported call the loop would have too few registers, and the most marks would stand on the stack of every run.
 #[inline(never)]
-fn fit_block<const N: usize>(checked: CheckedNodes, order: &[usize], lo: usize) -> Option<()>
+fn fit_block<const N: usize>(circuit: CheckedCircuit, order: &[usize], lo: usize) -> Option<()>
     requires { N ≤ MOST_WORDS }
-    ensures { is_some result ≡ fit_here checked.entry.nodes.words.now checked.entry.nodes.count lo (N * WORD_MARKS) order.now }
+    ensures { is_some result ≡ fit_here circuit.entry.nodes.words.now circuit.entry.nodes.count lo (N * WORD_MARKS) order.now }
 {
     let mut marks = [0; N];
-    take_entries(checked, order, lo, &mut marks)
+    take_entries(circuit, order, lo, &mut marks)
 }
 
 /// A pass for each block of so many words of marks.
-fn fit_blocks<const N: usize>(checked: CheckedNodes, order: &[usize]) -> Option<()>
-    requires { (length order.now ≤ checked.nodes.count) × (0 < N) × (N ≤ MOST_WORDS) }
-    ensures { is_some result ≡ fit (graph_of (nodes_of checked.entry.nodes.words.now checked.entry.nodes.count)) [] order.now }
+fn fit_blocks<const N: usize>(circuit: CheckedCircuit, order: &[usize]) -> Option<()>
+    requires { (length order.now ≤ circuit.nodes.count) × (0 < N) × (N ≤ MOST_WORDS) }
+    ensures { is_some result ≡ fit (graph_of (nodes_of circuit.entry.nodes.words.now circuit.entry.nodes.count)) [] order.now }
 {
-    for lo in (0..checked.nodes.count).step_by(N * WORD_MARKS) {
-        fit_block::<N>(checked, order, lo)?;
+    for lo in (0..circuit.nodes.count).step_by(N * WORD_MARKS) {
+        fit_block::<N>(circuit, order, lo)?;
     }
     Some(())
 }
 
 /// Each entry of the list is a cell, after the cells that it reads, and none stands twice.
-pub fn fit_marked(checked: CheckedNodes, order: &[usize]) -> Option<()>
-    requires { length order.now ≤ checked.nodes.count }
-    ensures { is_some result ≡ fit (graph_of (nodes_of checked.entry.nodes.words.now checked.entry.nodes.count)) [] order.now }
+pub fn fit_marked(circuit: CheckedCircuit, order: &[usize]) -> Option<()>
+    requires { length order.now ≤ circuit.nodes.count }
+    ensures { is_some result ≡ fit (graph_of (nodes_of circuit.entry.nodes.words.now circuit.entry.nodes.count)) [] order.now }
 {
-    if checked.nodes.count <= FEW_WORDS * WORD_MARKS {
-        fit_blocks::<FEW_WORDS>(checked, order)
-    } else if checked.nodes.count <= MANY_WORDS * WORD_MARKS {
-        fit_blocks::<MANY_WORDS>(checked, order)
+    if circuit.nodes.count <= FEW_WORDS * WORD_MARKS {
+        fit_blocks::<FEW_WORDS>(circuit, order)
+    } else if circuit.nodes.count <= MANY_WORDS * WORD_MARKS {
+        fit_blocks::<MANY_WORDS>(circuit, order)
     } else {
-        fit_blocks::<MOST_WORDS>(checked, order)
+        fit_blocks::<MOST_WORDS>(circuit, order)
     }
 }
 
 /// The list has each cell once, after the cells that it reads. The circuit has so many inputs.
-pub fn fit_list(checked: CheckedNodes, inputs: usize, order: &[usize]) -> bool
-    requires { inputs ≡ input_count (nodes_of checked.nodes.words.now checked.nodes.count) }
-    ensures { result ≡ fit_list (graph_of (nodes_of checked.entry.nodes.words.now checked.entry.nodes.count)) order.now }
+pub fn fit_list(circuit: CheckedCircuit, inputs: usize, order: &[usize]) -> bool
+    requires { inputs ≡ input_count (nodes_of circuit.nodes.words.now circuit.nodes.count) }
+    ensures { result ≡ fit_list (graph_of (nodes_of circuit.entry.nodes.words.now circuit.entry.nodes.count)) order.now }
 {
-    order.len() == checked.nodes.count - inputs && fit_marked(checked, order).is_some()
+    order.len() == circuit.nodes.count - inputs && fit_marked(circuit, order).is_some()
 }

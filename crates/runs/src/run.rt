@@ -9,12 +9,14 @@ ghost use Rattle.runs.specs.Runs.{run_store, run_outputs};
 ghost use Rattle.runs.specs.Inner.{SoundCells, with_run, cells_or_fault};
 ghost use Rattle.runs.specs.Calls.{run_fault, run_call};
 
-use crate::fitness::{CheckedNodes, fit_list};
+use crate::fitness::fit_list;
 use crate::inputs::put_inputs;
 use crate::steps::run_steps;
+use cells::UNKNOWN;
+use circuit::checked::CheckedCircuit;
 use circuit::nodes::{Nodes, Outputs};
 use circuit::refusals::Refusal;
-use values::assignments::assigned_fault;
+use values::assignments::wrong_assignment;
 use values::outputs::{put_outputs, room_fault};
 
 /// The first refusal of a run: `Broken`, `NotEarlier`, `WrongValues`, `UnfitOrder`, `NoRoom`. The store and the output area have so many places.
@@ -28,11 +30,11 @@ pub fn run_fault(
 ) -> Result<(), Refusal>
     ensures { result ≡ run_fault nodes.now outputs.now order.now assignment.now store answers }
 {
-    assigned_fault(nodes, outputs, assignment, 2)?;
-    let checked = CheckedNodes {
-        nodes: Nodes::of(nodes),
-    };
-    if !fit_list(checked, assignment.len(), order) {
+    let circuit = CheckedCircuit::of(nodes, outputs)?;
+    if wrong_assignment(circuit.nodes, assignment, UNKNOWN) {
+        return Err(Refusal::WrongValues);
+    }
+    if !fit_list(circuit, assignment.len(), order) {
         return Err(Refusal::UnfitOrder);
     }
     room_fault(nodes, outputs, store, answers)

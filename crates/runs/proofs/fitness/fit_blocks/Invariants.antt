@@ -5,7 +5,7 @@ use Rattle.runs.proofs.Blocks.{Covered}
 use Rattle.runs.proofs.fitness.fit_blocks.Given as goal
 
 abbrev pub invariant-loop-lo : goal.invariant-loop-lo
-invariant-loop-lo g l = Covered (graph_of (nodes_of l.checked.nodes.words.now l.checked.nodes.count)) l.order l.lo
+invariant-loop-lo g l = Covered (graph_of (nodes_of l.circuit.nodes.words.now l.circuit.nodes.count)) l.order l.lo
 
 abbrev pub decreases-loop-lo : goal.decreases-loop-lo
-decreases-loop-lo g l = l.checked.nodes.count - l.lo
+decreases-loop-lo g l = l.circuit.nodes.count - l.lo

@@ -10,6 +10,6 @@ use Rattle.runs.proofs.fitness.take_entries.Given as goal
 abbrev pub invariant-loop-x : goal.invariant-loop-x
 invariant-loop-x l =
     Marks l.lo l.marks (take l.x-index l.order)
-    × (fit_in (within l.lo (block_size l.initial.marks)) (graph_of (nodes_of l.checked.nodes.words.now l.checked.nodes.count)) [] l.order ≡ fit_in (within l.lo (block_size l.initial.marks)) (graph_of (nodes_of l.checked.nodes.words.now l.checked.nodes.count)) (take l.x-index l.order) (drop l.x-index l.order))
+    × (fit_in (within l.lo (block_size l.initial.marks)) (graph_of (nodes_of l.circuit.nodes.words.now l.circuit.nodes.count)) [] l.order ≡ fit_in (within l.lo (block_size l.initial.marks)) (graph_of (nodes_of l.circuit.nodes.words.now l.circuit.nodes.count)) (take l.x-index l.order) (drop l.x-index l.order))
     × (length l.marks ≡ length l.initial.marks)
     × (l.x-index ≤ length l.order)
