@@ -1,6 +1,7 @@
 //! Times this library and the reference on the same inputs, in turn. Prints `time PART SUBJECT SIZE KIND OURS THEIRS` in nanoseconds.
 //! Usage: measure [read] [schedule] [runs]; all without a word.
 mod circuits;
+mod colliding;
 mod plain;
 mod reading;
 mod running;

@@ -1,6 +1,7 @@
 //! Bytes that are lent to this library, and the most that the reference (and the Rust crate) holds during the same call.
 //! Prints `memory PART SUBJECT SIZE KIND OURS THEIRS`. The texts, circuits and assignments that are read count on neither side.
 mod circuits;
+mod colliding;
 mod plain;
 mod reading;
 mod running;

@@ -1,4 +1,5 @@
 //! The readers: over areas that are lent (`read`), and by the Rust crate, which makes its areas and structs anew (`crate-read`).
+use crate::colliding;
 use crate::reference::BoolCircuit;
 use crate::texts::{Format, Naming, text};
 use crate::timing::{both, print};
@@ -122,4 +123,16 @@ pub fn all() {
     let mut areas = Areas::roomy(text.len());
     let times = both(budget, Some(|| areas.read(Format::Blif, text.as_bytes())), Some(|| reference(Format::Blif, &text)));
     print("read", "blif", LARGEST, "n12345-roomy", times);
+    for count in [18_750, 37_500, 75_000] {
+        alike_names(count, budget);
+    }
+}
+
+/// A text of so many inputs whose names are alike in both hashes, beside one of as many names by chance: this library on both sides.
+fn alike_names(count: usize, budget: Duration) {
+    let (alike, chance) = colliding::both(count);
+    let (mut first, mut second) = (Areas::fitting(Format::Blif, alike.as_bytes()), Areas::fitting(Format::Blif, chance.as_bytes()));
+    let ours = || first.read(Format::Blif, alike.as_bytes());
+    let times = both(budget, Some(ours), Some(|| second.read(Format::Blif, chance.as_bytes())));
+    print("read-alike", "blif", alike.len(), "12-bytes", times);
 }

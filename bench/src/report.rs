@@ -165,6 +165,7 @@ of one in a hundred of the others; `late` is `layered` with one wire in its last
 of the run without unknowns at each size; of a refused run the refusal's number is tested. The others are timed alone; `compare/run` is what \
 compares.\n\n\
 ## Reading, by bytes of the text\n\n{}\n\
+Inputs alone, with names of 12 bytes made to be alike in both hashes of the name table, over this library's time with names by chance:\n\n{}\n\
 ## Schedule, by cells\n\n{}\n\
 ## Evaluate and run, by cells\n\n{}\n{}\n\
 ## Growth of the time when the size doubles: this library / the reference\n\n![growth](benchmarks-growth.svg)\n\n{}\
@@ -173,6 +174,7 @@ Bytes lent to this library's call (held at most by the Rust crate's), and the mo
         number(cases::median(spreads.clone())),
         number(spreads.iter().copied().reduce(f64::max)),
         ratios(times, &["read", "crate-read"], &[10_240, 102_400, 1_048_576]),
+        ratios(times, &["read-alike"], &[243_780, 487_530, 975_030]),
         ratios(times, &["schedule", "crate-schedule"], &powers),
         ratios(times, &RUNS, &[100, 1_000, 10_000, 62_500, 100_000, 1_000_000]),
         ratios(times, &["sweep", "crate-sweep"], &[100, 1_000]),
