@@ -1,11 +1,11 @@
 -- What it means that a gate was lowered: its cells at the end of the circuit, its name, and the bit that the name's wire has.
 -- Assumes nothing.
-use Rattle.std.specs.Prelude.{ℕ, ◌+◌, ◌<◌, ◌≡◌, true, List, [], ◌∷◌, ◌++◌, length}
+use Rattle.std.specs.Prelude.{ℕ, ◌<◌, ◌≡◌, true, List, [], ◌∷◌, ◌++◌}
 use Rattle.laws.specs.Stretches.{All}
 use Rattle.circuit.specs.declared.records.BoolNode.{BoolNode}
 use Rattle.circuit.specs.Records.{wire_of, is_cell_node}
 use Rattle.text.specs.declared.words.Word.{Word}
-use Rattle.reading.specs.Reading.{Held}
+use Rattle.reading.specs.Reading.{Held, next_wire}
 use Rattle.values.specs.Values.{signal_value, storage_values}
 use Rattle.bench_gates.specs.declared.operations.Operation.{Operation}
 use Rattle.bench_meaning.specs.Operations.{operation_bit}
@@ -17,7 +17,7 @@ wire_value assignment ns x = signal_value (storage_values ns assignment) (wire_o
 
 -- the wire is a constant or a node that is there, and has a value
 pub record Carries (assignment : List ℕ) (ns : List BoolNode) (x v : ℕ) : Type 0 where
-  pub there : x < length ns + 2
+  pub there : x < next_wire ns
   pub value : wire_value assignment ns x ≡ v
 
 -- wires that have these values, one by one
@@ -35,7 +35,7 @@ pub record Lowered (assignment : List ℕ) (out : Word) (v : ℕ) (h h' : Held) 
   pub wire : ℕ
   pub named : h'.names ≡ record { start = out.start; len = out.len; wire = wire } ∷ h.names
   pub carries : Carries assignment h'.nodes wire v
-  pub kept : (x : ℕ) → x < length h.nodes + 2 → wire_value assignment h'.nodes x ≡ wire_value assignment h.nodes x
+  pub kept : (x : ℕ) → x < next_wire h.nodes → wire_value assignment h'.nodes x ≡ wire_value assignment h.nodes x
 
 abbrev pub Bits : List ℕ → Type 0
 Bits vs = All (λ v. v < 2) vs
