@@ -2,6 +2,7 @@
 -- chain, then the set of ready nodes; for each read the next read of the same cell.
 -- Assumes nothing.
 use Rattle.std.specs.Prelude.{ℕ, zero, suc, ◌+◌, ◌-◌, ◌*◌, ◌/◌, ◌%◌, ◌^◌, ◌≤◌, ◌<◌, ◌≡◌, ◌≢◌, Bool, true, false, not, cond, ◌||◌, ◌&&◌, List, [], ◌∷◌, ◌++◌, eqb, leb, length, get_or, set, take, drop, replicate, Option, None, Some}
+use Rattle.ordering.specs.declared.widths.TheConstants.{READY_WORDS}
 use Rattle.std.proofs.Math.Option.{some}
 use Rattle.laws.specs.Lists.{numbers}
 use Rattle.std.specs.List.{filter}
@@ -64,7 +65,7 @@ pub record Sourced (src : ℕ → ℕ) (c : List Vertex) : Type 0 where
 
 -- what the areas hold when the cells of `taken` are taken
 pub record Running (src : ℕ → ℕ) (c : List Vertex) (taken area next : List ℕ) : Type 0 where
-  pub room : 3 * length c ≤ length area
+  pub room : READY_WORDS * length c ≤ length area
   pub links : READS * length c < length next
   pub heads : (x : ℕ) → x < length c → get_or area (2 * x + 1) 0 ≡ last_of src x (READS * length c)
   pub nexts : (e x : ℕ) → 1 ≤ e → e ≤ READS * length c → src e ≡ suc x → get_or next e 0 ≡ last_of src x (e - 1)
@@ -101,7 +102,7 @@ pub record Noted (n : ℕ) (area : List ℕ) (q v : ℕ) (t : Bool) (after : Lis
 
 -- what noting asks: the node q is not ready yet
 pub record Notable (n : ℕ) (area : List ℕ) (q : ℕ) (cells : ReadyCells) : Type 0 where
-  pub room : 3 * n ≤ length area
+  pub room : READY_WORDS * n ≤ length area
   pub below : q < n
   pub levels : Levels (drop (2 * n) area) n
   pub fresh : member (drop (2 * n) area) q ≡ false

@@ -1,6 +1,7 @@
 -- The order in which the cells are taken, over the graph of a circuit.
 -- Assumes nothing.
 use Rattle.std.specs.Prelude.{ℕ, zero, suc, ◌+◌, ◌*◌, Bool, cond, ◌&&◌, ◌||◌, List, [], ◌∷◌, ◌++◌, ltb, eqb, length, get_or, take}
+use Rattle.ordering.specs.declared.widths.TheConstants.{KEY_WORDS}
 use Rattle.std.proofs.Math.Option.{Option, none, some}
 use Rattle.graphs.specs.Graph.{Vertex, ready_cells}
 
@@ -11,7 +12,7 @@ pub record Key : Type 0 where
   pub third : ℕ
 
 unfoldable pub key_at : List ℕ → ℕ → Key
-key_at keys k = record { first = get_or keys (3 * k) 0; second = get_or keys (3 * k + 1) 0; third = get_or keys (3 * k + 2) 0 }
+key_at keys k = record { first = get_or keys (KEY_WORDS * k) 0; second = get_or keys (KEY_WORDS * k + 1) 0; third = get_or keys (KEY_WORDS * k + 2) 0 }
 
 -- "the greatest key, compared number by number": whether the first of two keys is greater
 unfoldable pub above : Key → Key → Bool

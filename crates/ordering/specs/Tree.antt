@@ -2,6 +2,7 @@
 -- An entry is 0 for no node, or the node's number and 1.
 -- Assumes nothing.
 use Rattle.std.specs.Prelude.{ℕ, zero, suc, ◌+◌, ◌*◌, ◌/◌, ◌≤◌, ◌<◌, ◌≡◌, ◌≢◌, true, false, cond, List, ltb, length, get_or, drop}
+use Rattle.ordering.specs.declared.widths.TheConstants.{KEY_WORDS, READY_WORDS}
 use Rattle.laws.specs.Lists.{numbers}
 use Rattle.readyset.specs.Sets.{member, Levels}
 use Rattle.ordering.specs.declared.window.Window.{Window}
@@ -58,7 +59,7 @@ tree_at n = 2 * n + 2 * (n / 64 + 1)
 
 -- what writing leaves asks: a set of more than one word, and room for n nodes
 abbrev pub Rankable : ℕ → ℕ → List ℕ → List ℕ → Type 0
-Rankable n limit keys area = (64 ≤ n) × (limit ≤ n) × (3 * n ≤ length area) × (3 * n ≤ length keys)
+Rankable n limit keys area = (64 ≤ n) × (limit ≤ n) × (READY_WORDS * n ≤ length area) × (KEY_WORDS * n ≤ length keys)
 
 -- the leaf of the word w is the entry of its ready nodes below a limit
 abbrev pub LeafIs : ℕ → ℕ → List ℕ → List ℕ → ℕ → Type 0
@@ -68,7 +69,7 @@ LeafIs n limit keys area w = Winner (key_at keys) (InWord (drop (2 * n) area) li
 pub record Ranked (n limit : ℕ) (keys area : List ℕ) (but : ℕ) : Type 0 where
   pub big : 64 ≤ n
   pub bound : limit ≤ n
-  pub size : 3 * n ≤ length area
+  pub size : READY_WORDS * n ≤ length area
   pub leaves : (w : ℕ) → w < n / 64 + 1 → w ≢ but → LeafIs n limit keys area w
   pub joined : Joined (key_at keys) (n / 64 + 1) n (drop (tree_at n) area) 1 0
 

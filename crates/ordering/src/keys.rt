@@ -1,8 +1,11 @@
 // Keys: three numbers for each node, compared number by number.
 // The keys and the count of nodes stay two parameters: over a struct of both each clause would read `keys.entry.words.now` and `keys.entry.count`, which is longer than the one fact that would go.
 ghost use Rattle.std.specs.Prelude.{◌≡◌, cond, ◌+◌, ◌*◌, ◌<◌, length};
+ghost use Rattle.ordering.specs.declared.widths.TheConstants.{KEY_WORDS};
 ghost use Rattle.ordering.specs.Schedule.{above, key_at};
 ghost use Rattle.ordering.specs.Areas.{key_of};
+
+use crate::widths::KEY_WORDS;
 
 #[derive(Clone, Copy, Debug, PartialEq, Eq, PartialOrd, Ord)]
 pub struct Key {
@@ -14,10 +17,10 @@ pub struct Key {
 // The key of a node.
 #[tactic(auto, unfolding(crate::specs::Schedule::key_at))]
 pub fn key_at(keys: &[u32], node: usize) -> Key
-    requires { 3 * node + 2 < length keys.now }
+    requires { KEY_WORDS * node + 2 < length keys.now }
     ensures { key_of result ≡ key_at keys.now node }
 {
-    let i = 3 * node;
+    let i = KEY_WORDS * node;
     Key {
         first: keys[i],
         second: keys[i + 1],
@@ -35,7 +38,7 @@ pub struct Best {
 impl Best {
     // A first node.
     pub fn of(keys: &[u32], node: usize) -> Best
-        requires { 3 * node + 2 < length keys.now }
+        requires { KEY_WORDS * node + 2 < length keys.now }
         ensures { (result.node ≡ node) × (key_of result.key ≡ key_at keys.now node) }
     {
         Best {
@@ -46,7 +49,7 @@ impl Best {
 
     // Of this node and one after it the one of the greater key, this one on equal keys.
     pub fn better(self, keys: &[u32], node: usize) -> Best
-        requires { (3 * node + 2 < length keys.now) × (key_of self.key ≡ key_at keys.now self.node) }
+        requires { (KEY_WORDS * node + 2 < length keys.now) × (key_of self.key ≡ key_at keys.now self.node) }
         ensures { (result.node ≡ cond (above (key_at keys.now node) (key_at keys.now self.node)) node self.node) × (key_of result.key ≡ key_at keys.now result.node) }
     {
         let other = Best::of(keys, node);

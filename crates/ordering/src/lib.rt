@@ -12,4 +12,5 @@ pub mod releasing;
 pub mod taking;
 pub mod tree;
 pub mod waiting;
+pub mod widths;
 pub mod window;

@@ -1,5 +1,6 @@
 // The chains of the reads of each cell, and how many of a node's reads read cells.
 ghost use Rattle.std.specs.Prelude.{◌≡◌, ℕ, ◌+◌, ◌*◌, ◌^◌, ◌<◌, ◌≤◌, length, get_or, drop};
+ghost use Rattle.ordering.specs.declared.widths.TheConstants.{READY_WORDS};
 ghost use Rattle.graphs.specs.declared.TheConstants.{READS};
 ghost use Rattle.ordering.specs.Areas.{head_set, next_set, Linked, linked, passing, entry_of};
 
@@ -9,7 +10,7 @@ use graphs::READS;
 // Puts a read at the front of its source's chain.
 #[tactic(auto, unfolding(crate::specs::Areas::head_set, crate::specs::Areas::next_set))]
 pub fn link(area: &mut [usize], next: &mut [usize], edge: usize, from: Option<usize>)
-    requires { (3 * entry_of from ≤ length area.old) × (edge < length next.old) }
+    requires { (READY_WORDS * entry_of from ≤ length area.old) × (edge < length next.old) }
     ensures { (area.new ≡ head_set area.old edge (entry_of from)) × (next.new ≡ next_set area.old next.old edge (entry_of from)) }
 {
     let Some(cell) = from else {
@@ -22,7 +23,7 @@ pub fn link(area: &mut [usize], next: &mut [usize], edge: usize, from: Option<us
 
 // Chains every read of a cell, each chain from its last read down.
 pub fn link_all<G: Graph>(graph: &G, area: &mut [usize], next: &mut [usize])
-    requires { (3 * length (G.vertices graph.now) ≤ length area.old) × (READS * length (G.vertices graph.now) < length next.old) × ((x : ℕ) → x < length (G.vertices graph.now) → get_or area.old (2 * x + 1) 0 ≡ 0) }
+    requires { (READY_WORDS * length (G.vertices graph.now) ≤ length area.old) × (READS * length (G.vertices graph.now) < length next.old) × ((x : ℕ) → x < length (G.vertices graph.now) → get_or area.old (2 * x + 1) 0 ≡ 0) }
     ensures { Linked (G.reads graph.now) (length (G.vertices graph.now)) (READS * length (G.vertices graph.now)) area.new next.new × (drop (2 * length (G.vertices graph.now)) area.new ≡ drop (2 * length (G.vertices graph.now)) area.old) }
 {
     for done in 0..READS * graph.count() {

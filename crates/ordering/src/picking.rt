@@ -1,5 +1,6 @@
 // A step's pick: among the smallest ready nodes, the one of the greatest key; and the members of a set, one after the other.
 ghost use Rattle.std.specs.Prelude.{◌≡◌, ◌+◌, ◌*◌, ◌<◌, ◌≤◌, length, take, drop, MatchOption};
+ghost use Rattle.ordering.specs.declared.widths.TheConstants.{KEY_WORDS, READY_WORDS};
 ghost use Rattle.std.proofs.Math.Option.{some};
 ghost use Rattle.std.specs.Int.NonZero.{non_zero_usize_get};
 ghost use Rattle.laws.specs.Lists.{numbers};
@@ -63,7 +64,7 @@ impl<'a> Iterator for Members<'a> {
 
 // Among `first`, the smallest member of the set, and so many others after it, the one of the greatest key.
 pub fn pick_ready(set: &[usize], keys: &[u32], nodes: usize, others: usize, first: usize) -> usize
-    requires { (nodes ≤ length set.now) × (3 * nodes ≤ length keys.now) × Levels set.now nodes × (first < nodes) × First (member set.now) 0 nodes first }
+    requires { (nodes ≤ length set.now) × (KEY_WORDS * nodes ≤ length keys.now) × Levels set.now nodes × (first < nodes) × First (member set.now) 0 nodes first }
     ensures { some result ≡ pick (key_at keys.now) (take (others + 1) (numbers (member set.now) 0 nodes)) }
 {
     let mut best = Best::of(keys, first);
@@ -87,7 +88,7 @@ pub fn pick_next(
     window: NonZeroUsize,
     cells: ReadyCells,
 ) -> Picked
-    requires { (3 * count ≤ length area.now) × (3 * count ≤ length keys.now) × Levels (drop (2 * count) area.now) count × (1 ≤ cells.number) × Counted count area.now cells }
+    requires { (READY_WORDS * count ≤ length area.now) × (KEY_WORDS * count ≤ length keys.now) × Levels (drop (2 * count) area.now) count × (1 ≤ cells.number) × Counted count area.now cells }
     ensures { PickedIs count area.now keys.now (non_zero_usize_get window) result }
 {
     let from = 2 * count;
@@ -99,7 +100,7 @@ pub fn pick_next(
 
 // The smallest ready node: a step's pick at window 1.
 pub fn first_ready(area: &[usize], count: usize, cells: ReadyCells) -> usize
-    requires { (3 * count ≤ length area.now) × Levels (drop (2 * count) area.now) count × (1 ≤ cells.number) × Counted count area.now cells }
+    requires { (READY_WORDS * count ≤ length area.now) × Levels (drop (2 * count) area.now) count × (1 ≤ cells.number) × Counted count area.now cells }
     ensures { FirstReady count area.now result }
 {
     let from = 2 * count;

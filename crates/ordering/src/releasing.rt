@@ -1,5 +1,6 @@
 // Cells released while the tree of the best ready cells is kept. Of `area`, `keys` and `count` beside the window window.rt says why.
 ghost use Rattle.std.specs.Prelude.{◌≡◌, true, false, ◌+◌, ◌*◌, ◌<◌, ◌≤◌, length, get_or, drop};
+ghost use Rattle.ordering.specs.declared.widths.TheConstants.{KEY_WORDS};
 ghost use Rattle.readyset.specs.Sets.{member};
 ghost use Rattle.ordering.specs.Areas.{Moved, Lowered, Releasable, Released};
 ghost use Rattle.ordering.specs.Tree.{Tracked};
@@ -12,7 +13,7 @@ use graphs::READS;
 impl Window {
     // One read less of the node waits; the last one makes it ready, and below the limit it enters the tree.
     pub fn lower(self, area: &mut [usize], keys: &[u32], count: usize, node: usize) -> Window
-        requires { Tracked count keys.now area.old self × (node < count) × (member (drop (2 * count) area.old) node ≡ false) × (1 ≤ get_or area.old (2 * node) 0) × (3 * count ≤ length keys.now) }
+        requires { Tracked count keys.now area.old self × (node < count) × (member (drop (2 * count) area.old) node ≡ false) × (1 ≤ get_or area.old (2 * node) 0) × (KEY_WORDS * count ≤ length keys.now) }
         ensures { Lowered count area.old node area.new × Tracked count keys.now area.new result × (result.limit ≡ self.limit) }
     {
         let cells = ReadyCells {
@@ -36,7 +37,7 @@ impl Window {
 
     // Takes the ready node out of the set and out of the tree.
     pub fn unmark(self, area: &mut [usize], keys: &[u32], count: usize, node: usize) -> Window
-        requires { Tracked count keys.now area.old self × (node < self.limit) × (member (drop (2 * count) area.old) node ≡ true) × (3 * count ≤ length keys.now) }
+        requires { Tracked count keys.now area.old self × (node < self.limit) × (member (drop (2 * count) area.old) node ≡ true) × (KEY_WORDS * count ≤ length keys.now) }
         ensures { Moved false count area.old node area.new × Tracked count keys.now area.new result }
     {
         mark_ready(area, count, node, false);
@@ -57,7 +58,7 @@ impl Window {
         count: usize,
         node: usize,
     ) -> Window
-        requires { Releasable count area.old next.now node × Tracked count keys.now area.old self × (node < self.limit) × (3 * count ≤ length keys.now) }
+        requires { Releasable count area.old next.now node × Tracked count keys.now area.old self × (node < self.limit) × (KEY_WORDS * count ≤ length keys.now) }
         ensures { Released count area.old next.now node area.new × Tracked count keys.now area.new result }
     {
         let mut at = self;

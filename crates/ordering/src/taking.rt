@@ -1,5 +1,6 @@
 // Cell after cell is taken, until none is ready.
 ghost use Rattle.std.specs.Prelude.{◌≡◌, ◌≢◌, [], ◌+◌, ◌*◌, ◌<◌, ◌≤◌, min, length, drop};
+ghost use Rattle.ordering.specs.declared.widths.TheConstants.{KEY_WORDS, READY_WORDS};
 ghost use Rattle.std.specs.Int.NonZero.{non_zero_usize_get};
 ghost use Rattle.graphs.specs.Graph.{cells_of};
 ghost use Rattle.ordering.specs.Schedule.{key_at, schedule_of};
@@ -41,7 +42,7 @@ pub fn take_scanning(
     window: NonZeroUsize,
     start: ReadyCells,
 ) -> Taken
-    requires { Startable count area.old next.now × (3 * count ≤ length keys.now) × (count ≤ length order.old) × Counted count area.old start }
+    requires { Startable count area.old next.now × (KEY_WORDS * count ≤ length keys.now) × (count ≤ length order.old) × Counted count area.old start }
     ensures { Took area.old next.now keys.now count (non_zero_usize_get window) result.taken order.new area.new × (result.taken ≤ length order.new) × (drop result.taken order.new ≡ drop result.taken order.old) × Counted count area.new result.cells × ((result.cells.number ≢ 0) → 64 ≤ count) }
 {
     let mut taken = 0;
@@ -77,7 +78,7 @@ pub fn take_ranked(
     done: usize,
     start: Window,
 ) -> usize
-    requires { Resumable count area.old next.now keys.now (non_zero_usize_get window) done order.old × (3 * count ≤ length keys.now) × (count ≤ length order.old) × (done ≤ length order.old) × Tracked count keys.now area.old start × (start.inside ≡ min (non_zero_usize_get window) start.number) }
+    requires { Resumable count area.old next.now keys.now (non_zero_usize_get window) done order.old × (KEY_WORDS * count ≤ length keys.now) × (count ≤ length order.old) × (done ≤ length order.old) × Tracked count keys.now area.old start × (start.inside ≡ min (non_zero_usize_get window) start.number) }
     ensures { Finished count area.old next.now keys.now (non_zero_usize_get window) done order.old order.new result × ((done ≤ result) × (drop result order.new ≡ drop result order.old)) }
 {
     let mut taken = done;
@@ -104,7 +105,7 @@ pub fn take_all(
     window: NonZeroUsize,
     start: ReadyCells,
 ) -> usize
-    requires { Startable count area.old next.now × (3 * count ≤ length keys.now) × (count ≤ length order.old) × Counted count area.old start }
+    requires { Startable count area.old next.now × (KEY_WORDS * count ≤ length keys.now) × (count ≤ length order.old) × Counted count area.old start }
     ensures { Scheduled count area.old next.now keys.now (non_zero_usize_get window) order.new result × (drop result order.new ≡ drop result order.old) }
 {
     let first = take_scanning(area, next, keys, order, count, window, start);
@@ -160,7 +161,7 @@ pub fn order_cells<G: Graph>(
     next: &mut [usize],
     order: &mut [usize],
 ) -> usize
-    requires { (3 * length (G.vertices graph.now) ≤ length area.old) × (READS * length (G.vertices graph.now) < length next.old) × (3 * length (G.vertices graph.now) ≤ length keys.now) × (length (G.vertices graph.now) ≤ length order.old) }
+    requires { (READY_WORDS * length (G.vertices graph.now) ≤ length area.old) × (READS * length (G.vertices graph.now) < length next.old) × (KEY_WORDS * length (G.vertices graph.now) ≤ length keys.now) × (length (G.vertices graph.now) ≤ length order.old) }
     ensures { Filled (schedule_of (G.vertices graph.now) (non_zero_usize_get window) (key_at keys.now)) order.old order.new result }
 {
     let count = graph.count();
@@ -177,7 +178,7 @@ pub fn first_order<G: Graph>(
     next: &mut [usize],
     order: &mut [usize],
 ) -> usize
-    requires { (3 * length (G.vertices graph.now) ≤ length area.old) × (READS * length (G.vertices graph.now) < length next.old) × (length (G.vertices graph.now) ≤ length order.old) }
+    requires { (READY_WORDS * length (G.vertices graph.now) ≤ length area.old) × (READS * length (G.vertices graph.now) < length next.old) × (length (G.vertices graph.now) ≤ length order.old) }
     ensures { Filled (schedule_of (G.vertices graph.now) 1 (key_at [])) order.old order.new result }
 {
     let count = graph.count();
@@ -196,7 +197,7 @@ pub fn fresh_order<G: Graph>(
     next: &mut [usize],
     order: &mut [usize],
 ) -> usize
-    requires { (3 * length (G.vertices graph.now) ≤ length area.old) × (READS * length (G.vertices graph.now) < length next.old) × (3 * length (G.vertices graph.now) ≤ length keys.now) × (length (G.vertices graph.now) ≤ length order.old) }
+    requires { (READY_WORDS * length (G.vertices graph.now) ≤ length area.old) × (READS * length (G.vertices graph.now) < length next.old) × (KEY_WORDS * length (G.vertices graph.now) ≤ length keys.now) × (length (G.vertices graph.now) ≤ length order.old) }
     ensures { Listed (schedule_of (G.vertices graph.now) (non_zero_usize_get window) (key_at keys.now)) order.new result }
 {
     order.fill(0);

@@ -9,6 +9,7 @@
 // Entry 0 is not used, and entry v stands above the entries 2 v and 2 v + 1. An entry is one word of the lent area: 0 for no node, or the node's number and 1.
 // When a node gets ready or is taken, its leaf is written anew and then the entries above it, as far as they change: at most as many as the tree is high.
 ghost use Rattle.std.specs.Prelude.{◌≡◌, not, cond, ◌+◌, ◌*◌, ◌/◌, ◌^◌, ◌<◌, ◌≤◌, eqb, length, get_or, set};
+ghost use Rattle.ordering.specs.declared.widths.TheConstants.{KEY_WORDS};
 ghost use Rattle.ordering.specs.Schedule.{key_at, above};
 ghost use Rattle.ordering.specs.Tree.{ahead, Winner, InWord, better_of, Joined, LeavesKept, tree_at, Rankable, LeafPut, LeavesPut, Ranked, Fronted};
 
@@ -16,7 +17,7 @@ use crate::keys::Best;
 
 // Of two nodes, the first the smaller, the one that is taken before the other.
 pub fn first_of(keys: &[u32], a: usize, b: usize) -> usize
-    requires { (3 * a + 2 < length keys.now) × (3 * b + 2 < length keys.now) }
+    requires { (KEY_WORDS * a + 2 < length keys.now) × (KEY_WORDS * b + 2 < length keys.now) }
     ensures { result ≡ cond (above (key_at keys.now b) (key_at keys.now a)) b a }
 {
     Best::of(keys, a).better(keys, b).node
@@ -24,7 +25,7 @@ pub fn first_of(keys: &[u32], a: usize, b: usize) -> usize
 
 // Of two entries the better. An entry is one word of the lent area: 0 for no node, or the node's number and 1.
 pub fn better_entry(keys: &[u32], a: usize, b: usize) -> usize
-    requires { (3 * a ≤ length keys.now) × (3 * b ≤ length keys.now) }
+    requires { (KEY_WORDS * a ≤ length keys.now) × (KEY_WORDS * b ≤ length keys.now) }
     ensures { result ≡ ahead (key_at keys.now) a b }
 {
     if a == 0 {
@@ -38,7 +39,7 @@ pub fn better_entry(keys: &[u32], a: usize, b: usize) -> usize
 
 // The entry of the members of the word w that are below the limit.
 pub fn leaf(ready: &[usize], keys: &[u32], limit: usize, w: usize) -> usize
-    requires { (w < length ready.now) × (64 * w ≤ length keys.now) × (3 * limit ≤ length keys.now) }
+    requires { (w < length ready.now) × (64 * w ≤ length keys.now) × (KEY_WORDS * limit ≤ length keys.now) }
     ensures { Winner (key_at keys.now) (InWord ready.now limit w) result }
 {
     let mut best = 0;
@@ -60,7 +61,7 @@ pub fn leaf(ready: &[usize], keys: &[u32], limit: usize, w: usize) -> usize
 
 // Makes an entry the better of the two below it; whether it changed.
 pub fn join(tree: &mut [usize], keys: &[u32], v: usize) -> bool
-    requires { (2 * v + 1 < length tree.old) × (3 * get_or tree.old (2 * v) 0 ≤ length keys.now) × (3 * get_or tree.old (2 * v + 1) 0 ≤ length keys.now) }
+    requires { (2 * v + 1 < length tree.old) × (KEY_WORDS * get_or tree.old (2 * v) 0 ≤ length keys.now) × (KEY_WORDS * get_or tree.old (2 * v + 1) 0 ≤ length keys.now) }
     ensures { (tree.new ≡ set tree.old v (better_of (key_at keys.now) tree.old v)) × (result ≡ not (eqb (get_or tree.old v 0) (better_of (key_at keys.now) tree.old v))) }
 {
     let best = better_entry(keys, tree[2 * v], tree[2 * v + 1]);
@@ -71,7 +72,7 @@ pub fn join(tree: &mut [usize], keys: &[u32], v: usize) -> bool
 
 // Makes the entry `from` and those above it right, as far as they change.
 pub fn climb(tree: &mut [usize], keys: &[u32], leaves: usize, nodes: usize, from: usize)
-    requires { Joined (key_at keys.now) leaves nodes tree.old 1 from × (from < leaves) × (3 * nodes ≤ length keys.now) }
+    requires { Joined (key_at keys.now) leaves nodes tree.old 1 from × (from < leaves) × (KEY_WORDS * nodes ≤ length keys.now) }
     ensures { Joined (key_at keys.now) leaves nodes tree.new 1 0 × LeavesKept leaves tree.old tree.new }
 {
     let mut v = from;
@@ -83,7 +84,7 @@ pub fn climb(tree: &mut [usize], keys: &[u32], leaves: usize, nodes: usize, from
 
 // All entries above the leaves.
 pub fn join_all(tree: &mut [usize], keys: &[u32], leaves: usize, nodes: usize)
-    requires { Joined (key_at keys.now) leaves nodes tree.old leaves 0 × (1 ≤ leaves) × (3 * nodes ≤ length keys.now) }
+    requires { Joined (key_at keys.now) leaves nodes tree.old leaves 0 × (1 ≤ leaves) × (KEY_WORDS * nodes ≤ length keys.now) }
     ensures { Joined (key_at keys.now) leaves nodes tree.new 1 0 × LeavesKept leaves tree.old tree.new }
 {
     for v in (1..leaves).rev() {
@@ -119,7 +120,7 @@ pub fn put_leaf(area: &mut [usize], keys: &[u32], count: usize, limit: usize, w:
 
 // Makes the tree right after the word w of the set changed.
 pub fn refresh(area: &mut [usize], keys: &[u32], count: usize, limit: usize, w: usize)
-    requires { Ranked count limit keys.now area.old w × (w < count / 64 + 1) × (3 * count ≤ length keys.now) }
+    requires { Ranked count limit keys.now area.old w × (w < count / 64 + 1) × (KEY_WORDS * count ≤ length keys.now) }
     ensures { Ranked count limit keys.now area.new (count / 64 + 1) × Fronted count area.old area.new }
 {
     put_leaf(area, keys, count, limit, w);

@@ -1,6 +1,7 @@
 // The ready area: the reads that each node waits for, and the set of ready nodes.
 // The C interface lends it, and it stands in no struct: a clause would name it `ready.old.words.now` and `ready.new.words.now`, longer than `area.old` and `area.new`, and promise that its count stays.
 ghost use Rattle.std.specs.Prelude.{◌≡◌, [], true, ◌&&◌, ◌+◌, ◌*◌, ◌^◌, ◌<◌, ◌≤◌, min, eqb, length, get_or, drop};
+ghost use Rattle.ordering.specs.declared.widths.TheConstants.{READY_WORDS};
 ghost use Rattle.readyset.specs.Sets.{Levels};
 ghost use Rattle.graphs.specs.declared.TheConstants.{READS};
 ghost use Rattle.ordering.specs.Areas.{Linked, Empty, Running, Counted, Moved, Noted, Notable, Lowered, Opened, Releasable, Released};
@@ -32,7 +33,7 @@ impl ReadyCells {
 
 // Puts the node into the set of ready nodes, or takes it out.
 pub fn mark_ready(area: &mut [usize], count: usize, node: usize, up: bool)
-    requires { (3 * count ≤ length area.old) × (node < count) × Levels (drop (2 * count) area.old) count }
+    requires { (READY_WORDS * count ≤ length area.old) × (node < count) × Levels (drop (2 * count) area.old) count }
     ensures { Moved up count area.old node area.new × Kept count area.old area.new }
 {
     let from = 2 * count;
@@ -119,7 +120,7 @@ pub fn open<G: Graph>(
 
 // The same of every node, from an empty set.
 pub fn open_all<G: Graph>(graph: &G, area: &mut [usize], count: usize, next: &[usize]) -> ReadyCells
-    requires { (3 * count ≤ length area.old) × (READS * count < length next.now) × Linked (G.reads graph.now) count (READS * count) area.old next.now × Empty count area.old × (count ≡ length (G.vertices graph.now)) }
+    requires { (READY_WORDS * count ≤ length area.old) × (READS * count < length next.now) × Linked (G.reads graph.now) count (READS * count) area.old next.now × Empty count area.old × (count ≡ length (G.vertices graph.now)) }
     ensures { Running (G.reads graph.now) (G.vertices graph.now) [] area.new next.now × Counted count area.new result }
 {
     let mut cells = ReadyCells {

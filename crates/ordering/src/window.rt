@@ -1,6 +1,7 @@
 // The ready cells that a step may take: the smallest, up to a limit, are in the tree.
 // `area`, `keys` and `count` come to each method beside it: waiting.rt says why the area stands in no struct, keys.rt why keys and count don't.
 ghost use Rattle.std.specs.Prelude.{◌≡◌, ◌+◌, ◌-◌, ◌*◌, ◌<◌, ◌≤◌, min, length, drop};
+ghost use Rattle.ordering.specs.declared.widths.TheConstants.{KEY_WORDS, READY_WORDS};
 ghost use Rattle.readyset.specs.Sets.{Levels};
 ghost use Rattle.ordering.specs.Areas.{Counted};
 ghost use Rattle.ordering.specs.Taking.{FirstWindow};
@@ -42,7 +43,7 @@ impl Window {
         window: usize,
         cells: ReadyCells,
     ) -> Window
-        requires { (64 ≤ count) × (3 * count ≤ length area.old) × (3 * count ≤ length keys.now) × Levels (drop (2 * count) area.old) count × Counted count area.old cells }
+        requires { (64 ≤ count) × (READY_WORDS * count ≤ length area.old) × (KEY_WORDS * count ≤ length keys.now) × Levels (drop (2 * count) area.old) count × Counted count area.old cells }
         ensures { Tracked count keys.now area.new result × (result.inside ≡ min window result.number) × Fronted count area.old area.new }
     {
         let first = Window::first(count, window, cells.number);
@@ -52,7 +53,7 @@ impl Window {
 
     // The greatest cell leaves the tree.
     pub fn shrink(self, area: &mut [usize], keys: &[u32], count: usize) -> Window
-        requires { Tracked count keys.now area.old self × (1 ≤ self.inside) × (3 * count ≤ length keys.now) }
+        requires { Tracked count keys.now area.old self × (1 ≤ self.inside) × (KEY_WORDS * count ≤ length keys.now) }
         ensures { Tracked count keys.now area.new result × (result.inside ≡ self.inside - 1) × (result.number ≡ self.number) × Fronted count area.old area.new }
     {
         let from = 2 * count;
@@ -67,7 +68,7 @@ impl Window {
 
     // The next cell enters the tree.
     pub fn grow(self, area: &mut [usize], keys: &[u32], count: usize) -> Window
-        requires { Tracked count keys.now area.old self × (self.inside < self.number) × (3 * count ≤ length keys.now) }
+        requires { Tracked count keys.now area.old self × (self.inside < self.number) × (KEY_WORDS * count ≤ length keys.now) }
         ensures { Tracked count keys.now area.new result × (result.inside ≡ self.inside + 1) × (result.number ≡ self.number) × Fronted count area.old area.new }
     {
         let from = 2 * count;
@@ -82,7 +83,7 @@ impl Window {
 
     // No more cells in the tree than the window has.
     pub fn narrow(self, area: &mut [usize], keys: &[u32], count: usize, window: usize) -> Window
-        requires { Tracked count keys.now area.old self × (3 * count ≤ length keys.now) }
+        requires { Tracked count keys.now area.old self × (KEY_WORDS * count ≤ length keys.now) }
         ensures { Tracked count keys.now area.new result × (result.inside ≤ window) × (result.number ≡ self.number) × Fronted count area.old area.new }
     {
         let mut at = self;
@@ -94,7 +95,7 @@ impl Window {
 
     // As many cells in the tree as the window has, or all that are ready.
     pub fn widen(self, area: &mut [usize], keys: &[u32], count: usize, window: usize) -> Window
-        requires { Tracked count keys.now area.old self × (self.inside ≤ window) × (3 * count ≤ length keys.now) }
+        requires { Tracked count keys.now area.old self × (self.inside ≤ window) × (KEY_WORDS * count ≤ length keys.now) }
         ensures { Tracked count keys.now area.new result × (result.inside ≡ min window result.number) × (result.number ≡ self.number) × Fronted count area.old area.new }
     {
         let mut at = self;
@@ -106,7 +107,7 @@ impl Window {
 
     // The cells in the tree are those that a step may take.
     pub fn settle(self, area: &mut [usize], keys: &[u32], count: usize, window: usize) -> Window
-        requires { Tracked count keys.now area.old self × (3 * count ≤ length keys.now) }
+        requires { Tracked count keys.now area.old self × (KEY_WORDS * count ≤ length keys.now) }
         ensures { Tracked count keys.now area.new result × (result.inside ≡ min window result.number) × (result.number ≡ self.number) × Fronted count area.old area.new }
     {
         let at = self.narrow(area, keys, count, window);

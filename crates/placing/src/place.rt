@@ -1,5 +1,6 @@
 // Definitions placed one after the other, the earliest whose inputs are all placed.
 ghost use Rattle.std.specs.Prelude.{◌*◌, ◌<◌, ◌≤◌, length};
+ghost use Rattle.ordering.specs.declared.widths.TheConstants.{READY_WORDS};
 ghost use Rattle.graphs.specs.declared.TheConstants.{READS};
 ghost use Rattle.placing.specs.Resolved.{PlacedIn};
 
@@ -14,7 +15,7 @@ pub fn place_all(
     successors: &mut [usize],
     order: &mut [usize],
 ) -> Result<(), Refusal>
-    requires { (3 * definitions.now.count ≤ length ready.old) × (READS * definitions.now.count < length successors.old) × (definitions.now.count ≤ length order.old) }
+    requires { (READY_WORDS * definitions.now.count ≤ length ready.old) × (READS * definitions.now.count < length successors.old) × (definitions.now.count ≤ length order.old) }
     ensures { PlacedIn definitions.now.sources.now definitions.now.count order.new result }
 {
     let placed = first_order(definitions, ready, successors, order);

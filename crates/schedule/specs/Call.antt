@@ -1,6 +1,7 @@
 -- The call: its answer, and what every lent area holds after it.
 -- Assumes nothing.
 use Rattle.circuit.specs.declared.records.TheConstants.{NODE_WORDS}
+use Rattle.ordering.specs.declared.widths.TheConstants.{KEY_WORDS, READY_WORDS}
 use Rattle.std.specs.Prelude.{ℕ, ◌+◌, ◌-◌, ◌*◌, ◌/◌, Bool, not, ◌&&◌, List, ◌++◌, eqb, leb, length, replicate, Err, Ok}
 use Rattle.circuit.specs.declared.refusals.Refusal.TheVariants.{NoWindow, WrongValues, NoRoom, Circle}
 use Rattle.circuit.specs.Refusals.{Try, Checked, refuse_if, first_fault, check_then}
@@ -27,14 +28,14 @@ order_in nodes n window keys = schedule_of (graph_in nodes n) window (key_at key
 
 -- "Areas: ready and order one record per node each, successors 2 × nodes + 1": a ready record has three words
 unfoldable pub room : ℕ → ℕ → ℕ → ℕ → Bool
-room n ready successors order = leb (3 * n) ready && (leb (READS * n + 1) successors && leb n order)
+room n ready successors order = leb (READY_WORDS * n) ready && (leb (READS * n + 1) successors && leb n order)
 
 -- "Checks: 15, 18, 19, 3": before anything is ordered, the areas by their sizes
 unfoldable pub call_fault : List ℕ → List ℕ → ℕ → List ℕ → ℕ → ℕ → ℕ → Checked
 call_fault nodes outputs window keys ready successors order =
     first_fault (records_fault nodes outputs)
     (first_fault (refuse_if (eqb window 0) NoWindow)
-    (first_fault (refuse_if (not (eqb (length keys) (3 * (length nodes / NODE_WORDS)))) WrongValues)
+    (first_fault (refuse_if (not (eqb (length keys) (KEY_WORDS * (length nodes / NODE_WORDS)))) WrongValues)
     (refuse_if (not (room (length nodes / NODE_WORDS) ready successors order)) NoRoom)))
 
 -- "17 exactly if some cells read in a circle": these are never ready, and stay out of the order (specs/Promises: exactly if there is a circle)

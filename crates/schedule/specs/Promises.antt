@@ -1,6 +1,7 @@
 -- What is promised of the order, in the graph's terms, of every call that is not refused before the cells are ordered.
 -- Assumes nothing.
 use Rattle.circuit.specs.declared.records.TheConstants.{NODE_WORDS}
+use Rattle.ordering.specs.declared.widths.TheConstants.{KEY_WORDS}
 use Rattle.std.specs.Prelude.{◌-◌, ◌*◌, ◌++◌, true, replicate, ℕ, ◌/◌, ◌≡◌, List, length, Err, Ok}
 use Rattle.circuit.specs.declared.refusals.Refusal.TheVariants.{Circle as InCircle}
 use Rattle.circuit.specs.Check.{topological_fault}
@@ -36,7 +37,7 @@ stored_cells nodes = cells_of (graph_in nodes (length nodes / NODE_WORDS))
 -- Of a circuit that the circuit check accepts, with a key for each node and room in every area, window 1 gives the cells in storage order, for all keys.
 abbrev pub StoredAtWindowOne : Type 0
 StoredAtWindowOne =
-    (nodes outputs keys ready successors order : List ℕ) → topological_fault nodes outputs ≡ Ok tt → length keys ≡ 3 * (length nodes / NODE_WORDS)
+    (nodes outputs keys ready successors order : List ℕ) → topological_fault nodes outputs ≡ Ok tt → length keys ≡ KEY_WORDS * (length nodes / NODE_WORDS)
     → room (length nodes / NODE_WORDS) (length ready) (length successors) (length order) ≡ true
     → schedule_call nodes outputs 1 keys ready successors order
     ≡ leaves (Ok (length (stored_cells nodes))) (replicate (length ready) 0) (replicate (length successors) 0) (stored_cells nodes ++ replicate (length order - length (stored_cells nodes)) 0)

@@ -1,6 +1,7 @@
 -- The node records as a graph: what each read reads, and what ordering asks of them.
 -- Assumes nothing.
 use Rattle.std.specs.Prelude.{ℕ, suc, ◌-◌, ◌*◌, ◌/◌, ◌%◌, ◌≤◌, ◌<◌, ◌≡◌, false, if◌then◌else◌, List, length, get_or}
+use Rattle.ordering.specs.declared.widths.TheConstants.{KEY_WORDS, READY_WORDS}
 use Rattle.graphs.specs.declared.TheConstants.{READS}
 use Rattle.circuit.specs.declared.records.BoolWire.{BoolWire}
 use Rattle.circuit.specs.declared.records.BoolWire.TheVariants.{Const, Node}
@@ -29,7 +30,7 @@ source_of nodes e = cell_read nodes (wire_at nodes ((e - 1) / READS) ((e - 1) % 
 pub record Orderable (nodes : List ℕ) (keys window ready successors order : ℕ) : Type 0 where
   pub wired : Wired nodes (length nodes / NODE_WORDS)
   pub window_is : 1 ≤ window
-  pub keys_are : keys ≡ 3 * (length nodes / NODE_WORDS)
-  pub ready_room : 3 * (length nodes / NODE_WORDS) ≤ ready
+  pub keys_are : keys ≡ KEY_WORDS * (length nodes / NODE_WORDS)
+  pub ready_room : READY_WORDS * (length nodes / NODE_WORDS) ≤ ready
   pub successor_room : READS * (length nodes / NODE_WORDS) < successors
   pub order_room : length nodes / NODE_WORDS ≤ order

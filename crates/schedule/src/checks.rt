@@ -12,6 +12,7 @@ use circuit::records::NODE_WORDS;
 use circuit::refusals::Refusal;
 use graphs::READS;
 use ordering::taking::{count_cells, fresh_order};
+use ordering::widths::{KEY_WORDS, READY_WORDS};
 use std::num::NonZeroUsize;
 
 // Whether the areas have room for n nodes.
@@ -19,7 +20,7 @@ pub fn has_room(n: usize, ready: usize, successors: usize, order: usize) -> bool
     requires { NODE_WORDS * n < 2 ^ 64 }
     ensures { result ≡ room n ready successors order }
 {
-    3 * n <= ready && READS * n < successors && n <= order
+    READY_WORDS * n <= ready && READS * n < successors && n <= order
 }
 
 // 15, 18, 19, 3: the areas by their sizes. Nodes and outputs come as two slices, as the C interface lends them: whether they are whole records is asked here.
@@ -39,7 +40,7 @@ pub fn call_fault(
         return Err(Refusal::NoWindow);
     }
     let n = nodes.len() / NODE_WORDS;
-    if keys.len() != 3 * n {
+    if keys.len() != KEY_WORDS * n {
         return Err(Refusal::WrongValues);
     }
     if !has_room(n, ready, successors, order) {
