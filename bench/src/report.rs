@@ -155,7 +155,8 @@ left. They are not cleared between calls: what a call clears is in its time. `ro
 - `run` has no counterpart in the reference and stands beside its `evaluate`, which takes the storage order and checks nothing; the list is that of a \
 window (window 1 gives the storage order). `checked`: the reference's `validate_topological` is called before its `evaluate`, as who wants a circuit \
 checked has to; this library's `evaluate` and run check it in any case. `run-plain` is the run over the time of a plain loop in Rust (bench/src/plain.rs) that makes the \
-same checks and the same steps over the same records and list, each index tested as Rust does. `sweep` goes over all numbered assignments (the size is the number of cells).\n\
+same checks and the same steps over the same records and list, each index tested as Rust does. The run is plain on purpose: a form that worked out \
+cells in blocks while it checked them took 0.26 to 0.98 of the reference's `evaluate` (DECISIONS 53 says what it gave for that). `sweep` goes over all numbered assignments (the size is the number of cells).\n\
 - `mixed` is `layered` with a quarter of the cells, chosen at random, cut to their first wire (NOT or BUFF), and with a constant for the second wire \
 of one in a hundred of the others; `late` is `layered` with one wire in its last cell alone. `run-refused` is a run that this library refuses, beside the reference's `evaluate` of the sound circuit: in \
 `window-64-twice` the list ends with its first cell again, in `broken-last` the last record has a table that no cell can have.\n\
