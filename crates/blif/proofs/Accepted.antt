@@ -8,6 +8,7 @@ use mathlib.Core.List.{List, [], ◌∷◌}
 use lib.ListN.{length}
 use lib.Dec.{leb}
 use borrow.Author.Tests.{leb-true}
+use Rattle.circuit.specs.declared.records.TheConstants.{WIRES}
 use Rattle.circuit.specs.declared.refusals.Refusal.TheVariants.{WrongCount, Malformed}
 use Rattle.circuit.specs.Refusals.{and_then}
 use Rattle.circuit.specs.Circuits.{Circuit}
@@ -15,12 +16,12 @@ use Rattle.circuit.proofs.Tries.{no_yes, yes_same, then_yes, need-yes, check_yes
 use Rattle.text.specs.Lines.{lines, line_words}
 use Rattle.text.specs.Joining.{joined_text}
 use Rattle.text.specs.declared.words.Word.{Word}
-use Rattle.cover.specs.Cover.{last_of, cover}
+use Rattle.cover.specs.Cover.{last_of, input_names, cover}
 use Rattle.cover.specs.Directives.{dotted, directive_of, rest_of, rows_of}
 use Rattle.reading.specs.Reading.{Places, places_in, Held, State, start, find, finish, text_fault}
 use Rattle.reading.specs.Areas.{read_text}
 use Rattle.reading.proofs.States.{undefined_yes}
-use Rattle.blif.specs.Blif.{drivers, input_names, gate, Plan, covered, plan, names_line, directive_step, line_step, read_lines, blif_lines, blif}
+use Rattle.blif.specs.Blif.{drivers, gate, Plan, covered, plan, names_line, directive_step, line_step, read_lines, blif_lines, blif}
 
 covered-yes : (out : Word) (xs : List ℕ) (c : Option ℕ) (g : Plan) → covered out xs c ≡ Ok g → (table : ℕ) × (c ≡ Some table) × (record { out = out; wires = xs; table = table } ≡ g)
 unfolding covered
@@ -35,7 +36,7 @@ names-none t p rows h h' q = no_yes q
 
 pub record NamesYes (t : List ℕ) (p : Places) (w : Word) (ws : List Word) (rows : List (List Word)) (h h' : Held) : Type 0 where
   pub new : find false t (last_of w ws) h.names ≡ None
-  pub few : length (input_names w ws) ≤ 2
+  pub few : length (input_names w ws) ≤ WIRES
   pub wires : List ℕ
   pub driven : drivers t h.names (input_names w ws) ≡ Ok wires
   pub table : ℕ
@@ -47,12 +48,12 @@ unfolding names_line plan
 names-yes t p w ws rows h h' q =
     let g = then_yes (plan t (w ∷ ws) rows h.names) (λ g. gate p g.out g.wires g.table h) h' q in
     let u = undefined_yes (find false t (last_of w ws) h.names) _ g.0 g.1 in
-    let n = need-yes (leb (length (input_names w ws)) 2) WrongCount _ g.0 u.1 in
+    let n = need-yes (leb (length (input_names w ws)) WIRES) WrongCount _ g.0 u.1 in
     let d = then_yes (drivers t h.names (input_names w ws)) (λ xs. covered (last_of w ws) xs (cover t (length (input_names w ws)) rows)) g.0 n.1 in
     let c = covered-yes (last_of w ws) d.0 (cover t (length (input_names w ws)) rows) g.0 d.2 in
     record {
       new = u.0;
-      few = leb-true (length (input_names w ws)) 2 n.0;
+      few = leb-true (length (input_names w ws)) WIRES n.0;
       wires = d.0;
       driven = d.1;
       table = c.0;

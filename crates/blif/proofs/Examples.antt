@@ -13,12 +13,12 @@ use Rattle.text.specs.Words.{words}
 use Rattle.text.specs.Lines.{raw_lines, uncommented, kept, kept_of, kept_lines, lines, places}
 use Rattle.text.specs.Joining.{continued, all_but_last, part, gather, joined_from, logical_lines, ended, joined_text}
 use Rattle.names.specs.Names.{lookup}
-use Rattle.cover.specs.Cover.{bit_of, row_with, row_of, fits, matches, set_from, set_row, with_row, set_rows, start_table, last_of, constant, rows_table, cover}
+use Rattle.cover.specs.Cover.{bit_of, row_with, row_of, fits, matches, set_from, set_row, with_row, set_rows, start_table, last_of, input_names, constant, rows_table, cover}
 use Rattle.cover.specs.Directives.{directive, directive_of, rows_of}
 use Rattle.reading.specs.Reading.{bytes_fault, text_fault, find, add_name, add_node, add_alias, add_named, add_input, add_output, each, resolve, closed, finish}
 use Rattle.reading.proofs.Cases.{seen, Case, areas, read_by}
 use Rattle.reading.specs.Areas.{read_text}
-use Rattle.blif.specs.Blif.{drivers, input_names, gate, covered, plan, names_line, directive_step, line_step, row_next, read_lines, blif_lines, blif}
+use Rattle.blif.specs.Blif.{drivers, gate, covered, plan, names_line, directive_step, line_step, row_next, read_lines, blif_lines, blif}
 
 read : Case → List ℕ
 read c = read_by blif c

@@ -18,12 +18,12 @@ use Rattle.text.specs.Joining.{joined_text}
 use Rattle.text.specs.declared.words.Word.{Word}
 use Rattle.cover.specs.declared.directives.Directive.{Directive}
 use Rattle.cover.specs.declared.directives.Directive.TheVariants.{Ignored, Inputs, Outputs, Names, Other}
-use Rattle.cover.specs.Cover.{last_of}
+use Rattle.cover.specs.Cover.{last_of, input_names}
 use Rattle.cover.specs.Directives.{dotted, directive_of, rest_of, rows_of}
 use Rattle.cover.proofs.TableLaws.{cover-fits}
 use Rattle.reading.specs.Reading.{Places, places_in, Held, State, start, find, stretch_name, driver, add_alias, add_input, add_output, each}
 use Rattle.reading.proofs.Sound.{HeldSound, start-sound, driver_below, alias_sound, named-sound, input_sound, each_keeps, finish-sound}
-use Rattle.blif.specs.Blif.{drivers, input_names, gate_cell, cell, gate, names_line, directive_step, line_step, row_next, read_lines, blif}
+use Rattle.blif.specs.Blif.{drivers, gate_cell, cell, gate, names_line, directive_step, line_step, row_next, read_lines, blif}
 use Rattle.reading.proofs.States.{held_yes, outputs-yes}
 use Rattle.blif.specs.declared.gates.TheConstants.{BUFFER}
 use Rattle.blif.proofs.Accepted.{names-none, names-yes, line_yes, text_yes}

@@ -3,6 +3,7 @@
 use Rattle.std.specs.Prelude.{ℕ, Bool, true, false, cond, List, [], ◌∷◌, length, eqb, leb, Err, None, Ok, Option, Some}
 use Rattle.circuit.specs.declared.refusals.Refusal.TheVariants.{WrongCount, BadRow, Unknown, Malformed}
 use Rattle.circuit.specs.declared.records.BoolNode.{BoolNode}
+use Rattle.circuit.specs.declared.records.TheConstants.{WIRES}
 use Rattle.circuit.specs.Refusals.{Try, and_then, need}
 use Rattle.circuit.specs.Circuits.{Circuit}
 use Rattle.text.specs.Lines.{lines, line_words}
@@ -10,7 +11,7 @@ use Rattle.text.specs.declared.words.Word.{Word}
 use Rattle.names.specs.Names.{Entry}
 use Rattle.cover.specs.declared.directives.Directive.{Directive}
 use Rattle.cover.specs.declared.directives.Directive.TheVariants.{Ignored, Inputs, Outputs, Names, Other}
-use Rattle.cover.specs.Cover.{last_of, cover}
+use Rattle.cover.specs.Cover.{last_of, input_names, cover}
 use Rattle.cover.specs.Directives.{dotted, directive_of, rest_of, rows_of, rows_after}
 use Rattle.reading.specs.Reading.{Places, Held, State, start, find, unless_defined, driver, word_cell, stretch_name, add_alias, add_named, add_input, add_output, each, finish}
 use Rattle.reading.specs.States.{with_held, with_outputs}
@@ -23,11 +24,6 @@ use Rattle.blif.specs.declared.gates.TheConstants.{BUFFER}
 unfoldable pub drivers : List ℕ → List Entry → List Word → Try (List ℕ)
 drivers t es [] = Ok []
 drivers t es (w ∷ ws) = and_then (driver (find false t w es)) (λ x. and_then (drivers t es ws) (λ xs. Ok (x ∷ xs)))
-
--- the words of a `.names` line but the last, which is its output
-unfoldable pub input_names : Word → List Word → List Word
-input_names w [] = []
-input_names w (x ∷ xs) = w ∷ input_names x xs
 
 -- the cell of a gate that is named by its output word, by the words of its wires
 abbrev pub gate_cell : Word → List ℕ → ℕ → BoolNode
@@ -53,12 +49,12 @@ unfoldable pub covered : Word → List ℕ → Option ℕ → Try Plan
 covered out xs None = Err BadRow
 covered out xs (Some table) = Ok (record { out = out; wires = xs; table = table })
 
--- "`.names`: no output word 9; then 4, more than two inputs 6, 5, then its rows up to the next line with `.` first: 7."
+-- a `.names` line: without a word it is malformed; then its name is new, its inputs are few enough and driven, and its rows right
 unfoldable pub plan : List ℕ → List Word → List (List Word) → List Entry → Try Plan
 plan t [] rows es = Err Malformed
 plan t (w ∷ ws) rows es =
     unless_defined (find false t (last_of w ws) es)
-    (need (leb (length (input_names w ws)) 2) WrongCount
+    (need (leb (length (input_names w ws)) WIRES) WrongCount
     (and_then (drivers t es (input_names w ws)) (λ xs. covered (last_of w ws) xs (cover t (length (input_names w ws)) rows))))
 
 unfoldable pub names_line : List ℕ → Places → List Word → List (List Word) → Held → Try Held

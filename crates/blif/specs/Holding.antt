@@ -1,6 +1,6 @@
 -- A gate as the code plans it, and BLIF as a format.
 -- Assumes nothing.
-use Rattle.std.specs.Prelude.{ℕ, ◌≡◌, false, List, IfOk}
+use Rattle.std.specs.Prelude.{ℕ, ◌≡◌, false, List, take, IfOk}
 use mathlib.Core.Path.{refl}
 use Rattle.circuit.specs.Refusals.{Try, and_then}
 use Rattle.text.specs.Lines.{lines, line_words}
@@ -9,15 +9,14 @@ use Rattle.names.specs.Names.{Entry}
 use Rattle.names.specs.Chains.{IsNew}
 use Rattle.names.specs.declared.NameTable.{NameTable}
 use Rattle.cover.specs.declared.directives.Directive.{Directive}
-use Rattle.cover.specs.Gates.{listed}
 use Rattle.cover.specs.Rows.{rows_from}
 use Rattle.reading.specs.Reading.{Places, State, start, find, driver, finish}
 use Rattle.reading.specs.Holding.{outcome}
-use Rattle.blif.specs.declared.gates.Planned.{Planned}
+use Rattle.blif.specs.declared.planned.Planned.{Planned}
 use Rattle.blif.specs.Blif.{Plan, directive_step, read_lines, blif_lines}
 
 abbrev pub planned : Planned → Plan
-planned p = record { out = p.out.word; wires = listed p.wires; table = p.table }
+planned p = record { out = p.out.word; wires = take p.count p.wires; table = p.table }
 
 -- the wire of an input word
 abbrev pub driver_of : List ℕ → List Entry → Word → Try ℕ

@@ -1,20 +1,21 @@
 // A `.names` line: its words, its rows, and the constant, alias or cell that they give.
-ghost use Rattle.std.specs.Prelude.{◌≡◌, ◌+◌, ◌≤◌, length, Some, IfOk};
+ghost use Rattle.std.specs.Prelude.{◌≡◌, ◌+◌, ◌≤◌, length, take, IfOk};
 ghost use Rattle.std.specs.Result.{result_unwrap_or};
 ghost use Rattle.laws.specs.Stretches.{All};
-ghost use Rattle.circuit.specs.Records.{HasWord};
+ghost use Rattle.circuit.specs.declared.records.TheConstants.{WIRES};
 ghost use Rattle.text.specs.Lines.{line_words};
 ghost use Rattle.names.specs.Chains.{Table, IsNew};
-ghost use Rattle.cover.specs.Gates.{listed, InputsFit};
+ghost use Rattle.text.specs.declared.words.Word.{Word};
 ghost use Rattle.cover.specs.Rows.{rows_from};
 ghost use Rattle.reading.specs.Reading.{add_name};
 ghost use Rattle.reading.specs.Holding.{outcome, entries_of, NamedNodesHold, NamedNodesHoldAfter, NamesStep, HeldStep};
-ghost use Rattle.blif.specs.Blif.{gate_cell, drivers, gate, plan, names_line};
+ghost use Rattle.blif.specs.Blif.{drivers, gate, plan, names_line};
 ghost use Rattle.blif.specs.Holding.{driver_of, PlanIs};
 
-use circuit::records::BoolNode;
+use crate::planned::Planned;
+use circuit::records::WIRES;
 use circuit::refusals::Refusal;
-use cover::gates::{Inputs, gate_words};
+use cover::gates::gate_words;
 use cover::lines::{line_words, rows_from};
 use cover::rows::parse_cover;
 use names::NameTable;
@@ -25,14 +26,6 @@ use text::words::Word;
 /// The table of one input whose value is the input's.
 pub const BUFFER: usize = 2;
 
-/// A gate that passed its checks: its new output name, the wires of its inputs, and its table.
-#[derive(Clone, Copy)]
-pub struct Planned {
-    pub out: NewName,
-    pub wires: Inputs<usize>,
-    pub table: usize,
-}
-
 /// The wire of an input word; `NoDriver` if it has none.
 #[tactic(auto, unfolding(reading::specs::Reading::find))]
 pub fn driver(table: &NameTable, word: Word) -> Result<usize, Refusal>
@@ -42,22 +35,23 @@ pub fn driver(table: &NameTable, word: Word) -> Result<usize, Refusal>
     table.find(word).ok_or(Refusal::NoDriver)
 }
 
-/// The wires of the input words; `NoDriver` at the first that has none.
-#[tactic(auto, unfolding(crate::specs::Blif::drivers))]
-pub fn drivers(table: &NameTable, inputs: Inputs<Word>) -> Result<Inputs<usize>, Refusal>
-    requires { InputsFit (length table.now.text.now) (Some inputs) }
-    ensures { outcome (λ w. listed w) result ≡ drivers table.now.text.now (entries_of table.now) (listed inputs) }
+/// The wires of the input words, in front of as many places as a cell has; `NoDriver` at the first that has none.
+pub fn drivers(table: &NameTable, inputs: &[Word]) -> Result<[usize; WIRES], Refusal>
+    requires few { length inputs.now ≤ WIRES }
+    requires in_text { All (λ (w : Word). w.start + w.len ≤ length table.now.text.now) inputs.now }
+    ensures { outcome (take (length inputs.now)) result
+        ≡ drivers table.now.text.now (entries_of table.now) inputs.now }
 {
-    Ok(match inputs {
-        Inputs::Zero => Inputs::Zero,
-        Inputs::One(first) => Inputs::One(driver(table, first)?),
-        Inputs::Two(first, second) => { Inputs::Two(driver(table, first)?, driver(table, second)?) }
-    })
+    let mut wires = [0; WIRES];
+    for (k, &word) in inputs.iter().enumerate() {
+        wires[k] = driver(table, word)?;
+    }
+    Ok(wires)
 }
 
 /// The gate of the words after `.names`, with the rows from `next` on: `Malformed` without a word, `DefinedBefore`, `WrongCount`,
 /// `NoDriver`, `BadRow`.
-#[tactic(auto, using(crate::proofs::Plans::plan_none, crate::proofs::Plans::plan_known, crate::proofs::Plans::plan_many, crate::proofs::Plans::plan_rows))]
+#[tactic(auto, using(crate::proofs::Plans::plan_none, crate::proofs::Plans::plan_known, crate::proofs::Plans::plan_many))]
 pub fn plan_gate(table: &NameTable, line: Word, next: usize) -> Result<Planned, Refusal>
     requires { line.start + line.len ≤ length table.now.text.now }
     ensures { let t = table.now.text.now in
@@ -67,12 +61,13 @@ pub fn plan_gate(table: &NameTable, line: Word, next: usize) -> Result<Planned, 
     let Err(out) = table.search(gate.out) else {
         return Err(Refusal::DefinedBefore);
     };
-    let inputs = gate.inputs.ok_or(Refusal::WrongCount)?;
-    let wires = drivers(table, inputs)?;
+    let count = gate.count.ok_or(Refusal::WrongCount)?;
+    let wires = drivers(table, &gate.inputs[..count])?;
     let rows = rows_from(table.text, next);
-    let truth_table = parse_cover(rows, inputs.count()).ok_or(Refusal::BadRow)?;
+    let truth_table = parse_cover(rows, count).ok_or(Refusal::BadRow)?;
     Ok(Planned {
         out,
+        count,
         wires,
         table: truth_table,
     })
@@ -101,19 +96,6 @@ pub fn add_alias(
     })
 }
 
-/// The cell of a gate.
-pub fn gate_cell(p: Planned) -> BoolNode
-    ensures cell { result ≡ gate_cell p.out.word (listed p.wires) p.table }
-    ensures wires_fit { All HasWord result.wires }
-{
-    let name = stretch_name(p.out.word);
-    match p.wires {
-        Inputs::Zero => word_cell(name, p.table, &[]),
-        Inputs::One(first) => word_cell(name, p.table, &[first]),
-        Inputs::Two(first, second) => word_cell(name, p.table, &[first, second]),
-    }
-}
-
 /// A gate that passed its checks: a constant, an alias or a cell, and its name.
 #[tactic(auto, unfolding(crate::specs::Blif::gate, reading::specs::Reading::add_alias))]
 pub fn put_gate(
@@ -127,13 +109,16 @@ pub fn put_gate(
     requires areas { NamedNodesHold text.now heads.old nodes.old names.old counts }
     requires new { IsNew text.now heads.old names.old counts.names p.out }
     ensures areas { NamedNodesHoldAfter text.now heads.new nodes.new names.new result }
-    ensures step { HeldStep (λ places. gate places p.out.word (listed p.wires) p.table)
+    ensures step { HeldStep (λ places. gate places p.out.word (take p.count p.wires) p.table)
         nodes.old names.old counts nodes.new names.new result }
 {
-    match (p.wires, p.table) {
-        (Inputs::Zero, wire) => add_alias(text, p.out, wire, counts, heads, names),
-        (Inputs::One(wire), BUFFER) => add_alias(text, p.out, wire, counts, heads, names),
-        _ => add_named(text, p.out, gate_cell(p), counts, heads, nodes, names),
+    match (p.count, p.table) {
+        (0, wire) => add_alias(text, p.out, wire, counts, heads, names),
+        (1, BUFFER) => add_alias(text, p.out, p.wires[0], counts, heads, names),
+        _ => {
+            let node = word_cell(stretch_name(p.out.word), p.table, &p.wires[..p.count]);
+            add_named(text, p.out, node, counts, heads, nodes, names)
+        }
     }
 }
 

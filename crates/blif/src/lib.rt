@@ -4,5 +4,6 @@
 
 pub mod gates;
 pub mod lines;
+pub mod planned;
 pub mod read;
 pub mod words;

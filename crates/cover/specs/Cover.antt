@@ -70,6 +70,11 @@ unfoldable pub last_of : Word → List Word → Word
 last_of w [] = w
 last_of w (x ∷ xs) = last_of x xs
 
+-- those before it
+unfoldable pub input_names : Word → List Word → List Word
+input_names w [] = []
+input_names w (x ∷ xs) = w ∷ input_names x xs
+
 -- "Rows without inputs: none is 0; else the first row's last word, 0 or 1 (else 7); later rows unread."
 unfoldable pub constant : List ℕ → List (List Word) → Option ℕ
 constant t [] = Some 0

@@ -3,6 +3,7 @@
 #![tactic(auto)]
 
 pub mod directives;
+pub mod gate;
 pub mod gates;
 pub mod lines;
 pub mod rows;

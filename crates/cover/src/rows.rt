@@ -3,13 +3,20 @@ ghost use Rattle.std.specs.Prelude.{◌≡◌, ◌+◌, ◌≤◌, ◌<◌, leng
 ghost use Rattle.laws.specs.Stretches.{stretch};
 ghost use Rattle.text.specs.Iterators.{words_left};
 ghost use Rattle.cover.specs.Cover.{RowIs, BitIs, fits, matches, entry_count, set_row, start_table, set_rows, rows_table, constant, cover};
+ghost use Rattle.cover.specs.declared.rows.TheConstants.{TABLE_BITS, TABLE_INPUTS};
 ghost use Rattle.cover.specs.Rows.{rows_left};
 
 use crate::lines::Rows;
 use cells::{set_table_entry, table_entry};
 use text::words::Words;
 
-// Where a row's pattern starts, and its value, 0 or 1 as entries are.
+/// The bits of a table.
+pub const TABLE_BITS: usize = 64;
+
+/// The most inputs of which a table has an entry for each setting.
+pub const TABLE_INPUTS: usize = 6;
+
+/// Where a row's pattern starts, and its value, 0 or 1 as entries are.
 #[derive(Clone, Copy)]
 pub struct Row {
     pub start: usize,
@@ -17,7 +24,7 @@ pub struct Row {
 }
 
 impl Row {
-    // The bytes of its pattern, one for each input.
+    /// The bytes of its pattern, one for each input.
     #[tactic(auto, unfolding(laws::specs::Stretches::stretch))]
     pub fn pattern(self, text: &[u8], inputs: usize) -> &[u8]
         requires { self.start + inputs ≤ length text.now }
@@ -28,7 +35,7 @@ impl Row {
     }
 }
 
-// A value, 0 or 1.
+/// A value, 0 or 1.
 #[tactic(auto, unfolding(crate::specs::Cover::bit_of))]
 pub fn parse_bit(word: &[u8]) -> Option<usize>
     ensures { BitIs result word.now }
@@ -40,7 +47,7 @@ pub fn parse_bit(word: &[u8]) -> Option<usize>
     }
 }
 
-// A row from its words: a pattern and a value, which may be absent.
+/// A row from its words: a pattern and a value, which may be absent.
 #[tactic(auto, unfolding(crate::specs::Cover::row_of, crate::specs::Cover::row_with))]
 pub fn parse_row(mut words: Words, inputs: usize) -> Option<Row>
     ensures { RowIs words.entry.text.now inputs words.entry.end result (words_left words.entry) }
@@ -60,18 +67,18 @@ pub fn parse_row(mut words: Words, inputs: usize) -> Option<Row>
     Some(Row { start, value })
 }
 
-// A byte of a pattern matches a bit.
+/// A byte of a pattern matches a bit.
 #[tactic(auto, unfolding(crate::specs::Cover::fits))]
 pub fn byte_fits(b: u8, bit: usize) -> bool
     requires { bit < 2 }
     ensures { result ≡ fits b bit }
 {
-    b == b'-' || usize::from(b) == 48 + bit
+    b == b'-' || usize::from(b) == usize::from(b'0') + bit
 }
 
-// A pattern matches an index, whose bits stand for the inputs from the last on.
+/// A pattern matches an index, whose bits stand for the inputs from the last on.
 pub fn pattern_matches(pattern: &[u8], j: usize) -> bool
-    requires { length pattern.now < 64 }
+    requires { length pattern.now < TABLE_BITS }
     ensures { result ≡ matches pattern.now j }
 {
     pattern
@@ -81,18 +88,18 @@ pub fn pattern_matches(pattern: &[u8], j: usize) -> bool
         .all(|(i, &b)| byte_fits(b, table_entry(j, i)))
 }
 
-// How many entries a table has. That inputs are below 7 stands in a clause here and below: as a type it would be made of a count and taken apart again at each.
+/// How many entries a table of so many inputs has.
 pub fn entry_count(inputs: usize) -> usize
-    requires { inputs < 7 }
-    ensures { (result ≡ entry_count inputs) × (0 < result) × (result ≤ 64) }
+    requires { inputs ≤ TABLE_INPUTS }
+    ensures { (result ≡ entry_count inputs) × (0 < result) × (result ≤ TABLE_BITS) }
 {
     1 << inputs
 }
 
-// Every entry that the pattern matches is set.
+/// Every entry that the pattern matches is set.
 #[tactic(auto, using(crate::proofs::RowLaws::set_start, crate::proofs::RowLaws::set_matched, crate::proofs::RowLaws::set_unmatched, crate::proofs::RowLaws::set_end))]
 pub fn set_row(pattern: &[u8], value: usize, table: usize) -> usize
-    requires { (length pattern.now < 7) × (value < 2) }
+    requires { (length pattern.now ≤ TABLE_INPUTS) × (value < 2) }
     ensures { result ≡ set_row (length pattern.now) pattern.now value table }
 {
     let mut t = table;
@@ -104,23 +111,23 @@ pub fn set_row(pattern: &[u8], value: usize, table: usize) -> usize
     t
 }
 
-// Every entry is one minus the first row's value.
+/// Every entry is one minus the first row's value.
 #[tactic(auto, unfolding(crate::specs::Cover::start_table))]
 pub fn start_table(inputs: usize, value: usize) -> usize
-    requires { (inputs < 7) × (value < 2) }
+    requires { (inputs ≤ TABLE_INPUTS) × (value < 2) }
     ensures { result ≡ start_table inputs value }
 {
     if value == 1 {
         0
     } else {
-        usize::MAX >> (64 - entry_count(inputs))
+        usize::MAX >> (TABLE_BITS - entry_count(inputs))
     }
 }
 
-// The rows, over a table.
+/// The rows, over a table.
 #[tactic(auto, unfolding(crate::specs::Cover::set_rows, crate::specs::Cover::with_row))]
 pub fn set_rows(rows: Rows, inputs: usize, table: usize) -> Option<usize>
-    requires { inputs < 7 }
+    requires { inputs ≤ TABLE_INPUTS }
     ensures { result ≡ set_rows rows.entry.lines.text.now inputs (rows_left rows.entry) table }
 {
     let text = rows.lines.text;
@@ -132,10 +139,10 @@ pub fn set_rows(rows: Rows, inputs: usize, table: usize) -> Option<usize>
     Some(t)
 }
 
-// The table of one input or more.
+/// The table of one input or more.
 #[tactic(auto, unfolding(crate::specs::Cover::rows_table, crate::specs::Cover::set_rows, crate::specs::Cover::with_row))]
 pub fn rows_table(mut rows: Rows, inputs: usize) -> Option<usize>
-    requires { inputs < 7 }
+    requires { inputs ≤ TABLE_INPUTS }
     ensures { result ≡ rows_table rows.entry.lines.text.now inputs (rows_left rows.entry) }
 {
     let text = rows.lines.text;
@@ -148,7 +155,7 @@ pub fn rows_table(mut rows: Rows, inputs: usize) -> Option<usize>
     set_rows(rows, inputs, table)
 }
 
-// The constant of no inputs.
+/// The constant of no inputs.
 #[tactic(auto, unfolding(crate::specs::Cover::constant))]
 pub fn constant_cover(mut rows: Rows) -> Option<usize>
     ensures { result ≡ constant rows.entry.lines.text.now (rows_left rows.entry) }
@@ -159,10 +166,10 @@ pub fn constant_cover(mut rows: Rows) -> Option<usize>
     }
 }
 
-// The table that the rows give.
+/// The table that the rows give.
 #[tactic(auto, unfolding(crate::specs::Cover::cover))]
 pub fn parse_cover(rows: Rows, inputs: usize) -> Option<usize>
-    requires { inputs < 7 }
+    requires { inputs ≤ TABLE_INPUTS }
     ensures { result ≡ cover rows.entry.lines.text.now inputs (rows_left rows.entry) }
 {
     if inputs == 0 {

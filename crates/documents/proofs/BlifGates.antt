@@ -30,9 +30,9 @@ use Rattle.reading.proofs.Sound.{Wired, wired_more, lookup_below}
 use Rattle.values.proofs.NodeValues.{count_append}
 use Rattle.values.specs.Values.{signal_value, entry_of}
 use Rattle.values.specs.Assignments.{input_count}
-use Rattle.cover.specs.Cover.{last_of, cover}
+use Rattle.cover.specs.Cover.{last_of, input_names, cover}
 use Rattle.cover.proofs.TableLaws.{cover-fits}
-use Rattle.blif.specs.Blif.{drivers, input_names, gate_cell, gate, names_line}
+use Rattle.blif.specs.Blif.{drivers, gate_cell, gate, names_line}
 use Rattle.blif.proofs.Accepted.{names-none, names-yes}
 use Rattle.documents.specs.BlifDocument.{gate_inputs, gate_output, IsCover, cover_value, Equation, Assigned}
 use Rattle.documents.proofs.BlifCover.{Bits, Inside, row_bytes, Covers, cover_means}
@@ -184,7 +184,7 @@ module _ (t a : List ℕ) where
   aliased h h' out v u e d = record { added = subst (λ (x : ℕ). Added h h' (bytes_of t out) x) e d.0; counted = ap input_count d.1 }
 
   gate_read : Bits a → (p : Places) (out : Word) (xs : List ℕ) (table : ℕ) (h h' : Held) → Wired (length h.nodes) h.names → lookup t (bytes_of t out) h.names ≡ None
-      → All (λ x. x < length h.nodes + 2) xs → length xs ≤ 2 → (length xs ≡ 0 → table < 2) → gate p out xs table h ≡ Ok h'
+      → All (λ x. x < length h.nodes + 2) xs → length xs ≤ WIRES → (length xs ≡ 0 → table < 2) → gate p out xs table h ≡ Ok h'
       → Gated h h' out (entry table (index_from 0 (map (wire_value a h.nodes) xs)))
   unfolding gate
   gate_read ha p out [] table h h' wd new below few small q =
@@ -249,7 +249,7 @@ module _ (t a : List ℕ) where
 
   -- a gate that passed its checks
   module _ (ha : Bits a) (p : Places) (w : Word) (ws : List Word) (rows : List (List Word)) (h h' : Held) (wd : Wired (length h.nodes) h.names) (ins : Inside t rows)
-      (new : lookup t (bytes_of t (last_of w ws)) h.names ≡ None) (few : length (input_names w ws) ≤ 2) (xs : List ℕ) (table : ℕ)
+      (new : lookup t (bytes_of t (last_of w ws)) h.names ≡ None) (few : length (input_names w ws) ≤ WIRES) (xs : List ℕ) (table : ℕ)
       (dr : Driven h (input_names w ws) xs) (cv : cover t (length (input_names w ws)) rows ≡ Some table) (q : gate p (last_of w ws) xs table h ≡ Ok h')
     where
       g : Gated h h' (last_of w ws) (entry table (index_from 0 (map (wire_value a h.nodes) xs)))

@@ -17,9 +17,9 @@ use Rattle.reading.proofs.Made.{alias_made, named_made, driver_found}
 use Rattle.text.specs.Words.{bytes_of}
 use Rattle.text.specs.declared.words.Word.{Word}
 use Rattle.names.specs.Names.{Entry, name_of, lookup}
-use Rattle.cover.specs.Cover.{last_of}
+use Rattle.cover.specs.Cover.{last_of, input_names}
 use Rattle.reading.specs.Reading.{Places, Held, find, driver, add_alias, add_named, each}
-use Rattle.blif.specs.Blif.{drivers, input_names, gate_cell, gate, names_line}
+use Rattle.blif.specs.Blif.{drivers, gate_cell, gate, names_line}
 use Rattle.blif.proofs.Accepted.{names-yes}
 use Rattle.placing.specs.Promises.{stands_among, accepts}
 use Rattle.placing.proofs.Filed.{as-filed, from-number}

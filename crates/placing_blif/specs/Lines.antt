@@ -4,9 +4,9 @@ use Rattle.std.specs.Prelude.{ℕ, ◌≡◌, List, [], ◌∷◌, map, length, 
 use Rattle.circuit.specs.Refusals.{Try}
 use Rattle.text.specs.Words.{bytes_of}
 use Rattle.text.specs.declared.words.Word.{Word}
-use Rattle.cover.specs.Cover.{last_of, cover}
+use Rattle.cover.specs.Cover.{last_of, input_names, cover}
 use Rattle.reading.specs.Reading.{Places, Held, each}
-use Rattle.blif.specs.Blif.{input_names, names_line}
+use Rattle.blif.specs.Blif.{names_line}
 use Rattle.placing.specs.Definitions.{Definition}
 use Rattle.placing.specs.Placing.{placing}
 

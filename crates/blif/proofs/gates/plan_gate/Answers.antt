@@ -1,27 +1,45 @@
-use Prim.Native.Nat.{ℕ}
-use mathlib.Core.Path.{sym, ap, ◌∙◌}
+use Rattle.std.proofs.Common.{◌≡◌, ◌≤◌, ℕ, length, take, sym, ap, ◌∙◌, arith, rules}
 use mathlib.Core.List.{List}
+use lib.Seq.{length-take-le}
+use Rattle.std.specs.Prelude.{Some}
 use Rattle.std.proofs.lemmas.Result.{err_from_is_err_and}
+use Rattle.circuit.specs.declared.records.TheConstants.{WIRES}
 use Rattle.cover.specs.Cover.{cover}
-use Rattle.cover.specs.Gates.{gate_of}
-use Rattle.cover.specs.Rows.{rows_from, rows_left}
-use Rattle.blif.proofs.Plans.{plan_stop, plan_made}
+use Rattle.cover.specs.Gates.{gate_of, seen_of, words_seen}
+use Rattle.cover.specs.Rows.{rows_left}
+use Rattle.blif.proofs.Plans.{plan_stop, plan_rows, plan_made}
 use Rattle.blif.proofs.gates.plan_gate.Goals as goal
 
 pub returns-in_err-wires : goal.returns-in_err-wires
 returns-in_err-wires c =
     let p = err_from_is_err_and c.from_residual-in_err-wires.result c.from_residual-in_err-wires.ensures.1 in
-    let gate = sym c.in_ok-gate.ensures.ok_part ∙ c.gate_words.ensures.is ∙ ap gate_of c.line_words.ensures.all in
+    let gate : Some (words_seen c.in_ok-gate.gate) ≡ gate_of _ = sym (ap seen_of c.in_ok-gate.ensures.ok_part) ∙ c.gate_words.ensures.is ∙ ap gate_of c.line_words.ensures.all in
     rw (p.1, p.2)
-    (record { is = plan_stop c.args.table.now.text.now _ _ _ c.in_ok-gate.gate gate c.in-Err.ensures.0 c.in_ok-inputs.inputs c.in_ok-inputs.ensures.ok_part _ c.in_err-wires.ensures; new = tt })
+    (record { is = plan_stop c.args.table.now.text.now _ _ _ c.in_ok-gate.gate gate c.in-Err.ensures.0 c.in_ok-count.count c.in_ok-count.ensures.ok_part _ c.in_err-wires.ensures; new = tt })
 
 pub returns : goal.returns
 returns c =
     let text : List ℕ = c.args.table.now.text.now in
-    let some = c.in_ok-gate.ensures.ok_part in
-    let gate = sym some ∙ c.gate_words.ensures.is ∙ ap gate_of c.line_words.ensures.all in
-    let rows = c.parse_cover.ensures ∙ ap (λ (t : List ℕ). cover t c.count.result (rows_left c.rows_from-rows.result)) c.rows_from-rows.ensures.places.0 ∙ ap (cover text c.count.result) c.rows_from-rows.ensures.all ∙ ap (λ (n : ℕ). cover text n (rows_from text c.args.next)) c.count.ensures.0 in
+    let gate : Some (words_seen c.in_ok-gate.gate) ≡ gate_of _ = sym (ap seen_of c.in_ok-gate.ensures.ok_part) ∙ c.gate_words.ensures.is ∙ ap gate_of c.line_words.ensures.all in
+    let n : ℕ = c.in_ok-count.count in
+    let all : length c.in_ok-gate.gate.inputs ≡ WIRES = search rules in
+    let few : n ≤ WIRES = search rules in
+    let size : length (take n c.in_ok-gate.gate.inputs) ≡ n = length-take-le n c.in_ok-gate.gate.inputs (omega (arith, all)) in
+    let rows = c.parse_cover.ensures ∙ ap (λ (t : List ℕ). cover t n (rows_left c.rows_from-rows.result)) c.rows_from-rows.ensures.places.0 ∙ ap (cover text n) c.rows_from-rows.ensures.all in
     record {
-      is = rw c.in-Err.ensures.1 (plan_made text _ _ _ c.in_ok-gate.gate gate c.in-Err.ensures.0 c.in_ok-inputs.inputs c.in_ok-inputs.ensures.ok_part _ c.in_ok-wires.ensures c.parse_cover.result rows c.in_ok-truth_table.truth_table c.in_ok-truth_table.ensures.ok_part);
+      is = rw (c.in-Err.ensures.1) (plan_made text _ _ _ c.in_ok-gate.gate gate c.in-Err.ensures.0 n c.in_ok-count.ensures.ok_part all few _ (rw size at c.in_ok-wires.ensures) c.parse_cover.result rows c.in_ok-truth_table.truth_table c.in_ok-truth_table.ensures.ok_part);
       new = c.in-Err.ensures.2;
     }
+
+pub returns-in_err-truth_table : goal.returns-in_err-truth_table
+returns-in_err-truth_table c =
+    let p = err_from_is_err_and c.from_residual-in_err-truth_table.result c.from_residual-in_err-truth_table.ensures.1 in
+    let text : List ℕ = c.args.table.now.text.now in
+    let gate : Some (words_seen c.in_ok-gate.gate) ≡ gate_of _ = sym (ap seen_of c.in_ok-gate.ensures.ok_part) ∙ c.gate_words.ensures.is ∙ ap gate_of c.line_words.ensures.all in
+    let n : ℕ = c.in_ok-count.count in
+    let all : length c.in_ok-gate.gate.inputs ≡ WIRES = search rules in
+    let few : n ≤ WIRES = search rules in
+    let size : length (take n c.in_ok-gate.gate.inputs) ≡ n = length-take-le n c.in_ok-gate.gate.inputs (omega (arith, all)) in
+    let rows = c.parse_cover.ensures ∙ ap (λ (t : List ℕ). cover t n (rows_left c.rows_from-rows.result)) c.rows_from-rows.ensures.places.0 ∙ ap (cover text n) c.rows_from-rows.ensures.all in
+    rw (p.1, p.2)
+    (record { is = plan_rows text _ _ _ c.in_ok-gate.gate gate c.in-Err.ensures.0 n c.in_ok-count.ensures.ok_part all few _ (rw size at c.in_ok-wires.ensures) c.parse_cover.result rows _ c.in_err-truth_table.ensures.value c.in_err-truth_table.ensures.ok_part; new = tt })
