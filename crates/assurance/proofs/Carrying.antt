@@ -17,7 +17,7 @@ use Rattle.schedule.specs.Call.{Left, leaves, schedule_call}
 use Rattle.values.specs.Assignments.{wrong_assignment}
 use Rattle.values.specs.Calls.{CallResult, after_call as result_of, call_result, evaluate_call}
 use Rattle.runs.specs.Calls.{run_call}
-use Rattle.assurance.specs.declared.Both.{Both}
+use Rattle.assurance.specs.declared.circuits.Both.{Both}
 use Rattle.assurance.specs.Assurance.{node_records, output_records, order_of, outputs_of, Lent, Assured}
 use Rattle.assurance.specs.Carried.{RanThenEvaluated, Carried}
 use Rattle.assurance.proofs.Assuring.{output_count, nodes-in, wires-in, graph-in, order-in, accepted, number, assured}

@@ -1,3 +1,5 @@
 pub mod Assuring
+pub mod BristolSound
 pub mod Carrying
+pub mod Composing
 pub mod Refusing

@@ -11,7 +11,7 @@ use Rattle.circuit.specs.declared.refusals.Refusal.{Refusal}
 use Rattle.circuit.specs.Refusals.{Checked}
 use Rattle.schedule.specs.Call.{Left, leaves, schedule_fault, schedule_call}
 use Rattle.values.specs.Calls.{CallResult, after_call as gives, evaluate_fault, evaluate_call, call_result}
-use Rattle.assurance.specs.declared.Both.{Both}
+use Rattle.assurance.specs.declared.circuits.Both.{Both}
 use Rattle.assurance.specs.Carried.{RanThenEvaluated}
 use Rattle.assurance.specs.Refused.{RefusedRun, RefusedBoth}
 

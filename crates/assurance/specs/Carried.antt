@@ -7,7 +7,7 @@ use Rattle.circuit.specs.Circuits.{Circuit, filled, KeepsRules}
 use Rattle.values.specs.Assignments.{wrong_assignment}
 use Rattle.values.specs.Calls.{call_result, evaluate_call}
 use Rattle.runs.specs.Calls.{run_call}
-use Rattle.assurance.specs.declared.Both.{Both}
+use Rattle.assurance.specs.declared.circuits.Both.{Both}
 use Rattle.assurance.specs.Assurance.{node_records, output_records, order_of, outputs_of, Lent, Assured}
 
 -- the run, then `evaluate`: each by its own definition

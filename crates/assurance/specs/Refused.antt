@@ -5,7 +5,7 @@ use Rattle.circuit.specs.declared.records.TheConstants.{NODE_WORDS, OUTPUT_WORDS
 use Rattle.circuit.specs.declared.refusals.Refusal.{Refusal}
 use Rattle.circuit.specs.declared.refusals.Refusal.TheVariants.{Broken}
 use Rattle.schedule.specs.Call.{schedule_fault}
-use Rattle.assurance.specs.declared.Both.{Both}
+use Rattle.assurance.specs.declared.circuits.Both.{Both}
 
 -- both answers are the refusal, and the areas of the run and of `evaluate`, of so many bytes, are zeros
 pub record RefusedRun (e : Refusal) (values answers evaluated : ℕ) (r : Both) (values' answers' evaluated' : List ℕ) : Type 0 where

@@ -1,8 +1,8 @@
 use lib.ListN.{length}
 use Rattle.bristol.specs.Bristol.{bristol_circuit}
-use Rattle.assured.proofs.BristolSound.{sound, answer_is, nodes_are, outputs_are, same_contents}
-use Rattle.assured.proofs.Composing.{composed}
-use Rattle.assured.proofs.bristol_text.assured_bristol.Goals as goal
+use Rattle.assurance.proofs.BristolSound.{sound, answer_is, nodes_are, outputs_are, same_contents}
+use Rattle.assurance.proofs.Composing.{composed}
+use Rattle.assurance.proofs.texts.assured_bristol.Goals as goal
 
 pub returns : goal.returns
 returns c =

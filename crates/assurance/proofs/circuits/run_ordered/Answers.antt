@@ -2,7 +2,7 @@ use mathlib.Core.Path.{sym}
 use native.Mathlib.Omega.{arith}
 use lib.Seq.{length-take-le}
 use Rattle.assurance.proofs.Refusing.{ran_cleared}
-use Rattle.assurance.proofs.run_ordered.Goals as goal
+use Rattle.assurance.proofs.circuits.run_ordered.Goals as goal
 
 pub returns-then-order-cells : goal.returns-then-order-cells
 returns-then-order-cells c = record { ran_then_evaluated = λ h. absurd (omega (arith, h, c.if-order-cells.true)); refused_run = λ h. c.refuse_run.ensures; values_after = c.refuse_run.ensures.values_are }

@@ -7,7 +7,7 @@ use Rattle.circuit.specs.Circuits.{Circuit, KeepsRules}
 use Rattle.reading.specs.Reading.{Places}
 use Rattle.reading.specs.Areas.{read_text}
 use Rattle.schedule.specs.Call.{schedule_fault}
-use Rattle.assurance.specs.declared.Both.{Both}
+use Rattle.assurance.specs.declared.circuits.Both.{Both}
 use Rattle.assurance.specs.Assurance.{node_records, output_records, Lent}
 use Rattle.assurance.specs.Carried.{Carried}
 use Rattle.assurance.specs.Refused.{RefusedBoth}

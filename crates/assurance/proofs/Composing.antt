@@ -19,11 +19,11 @@ use Rattle.circuit.specs.declared.records.TheConstants.{NODE_WORDS, OUTPUT_WORDS
 use Rattle.circuit.proofs.Codes.{node_wide, output_wide}
 use Rattle.schedule.specs.Call.{schedule_fault}
 use Rattle.reading.specs.Areas.{Leaves}
-use Rattle.assurance.specs.declared.Both.{Both}
+use Rattle.assurance.specs.declared.circuits.Both.{Both}
 use Rattle.assurance.specs.Assurance.{node_records, output_records}
 use Rattle.assurance.specs.Carried.{Carries}
 use Rattle.assurance.specs.Refused.{RefusedBoth, RefusesRead}
-use Rattle.assured.specs.Assured.{Assures, Refuses}
+use Rattle.assurance.specs.Texts.{Assures, Refuses}
 
 -- the area's first records are the circuit's
 module _ {A : Type 0} (enc : A → List ℕ) (w : ℕ) (wide : (a : A) → length (enc a) ≡ w) (xs : List A) (k size : ℕ) (area : List ℕ) (e : area ≡ filled (encodes enc xs) size) (count : k ≡ length xs) where

@@ -3,7 +3,7 @@ use mathlib.Core.Path.{sym}
 use native.Mathlib.Omega.{arith}
 use lib.Seq.{length-take-le}
 use Rattle.circuit.specs.declared.records.TheConstants.{NODE_WORDS, OUTPUT_WORDS}
-use Rattle.assurance.proofs.run_read.Goals as goal
+use Rattle.assurance.proofs.circuits.run_read.Goals as goal
 
 pub slice_bounds-order_and_run-end : goal.slice_bounds-order_and_run-end
 slice_bounds-order_and_run-end c = sym (length-take-le (c.in-Ok.sizes.nodes * NODE_WORDS) c.args.nodes.now (omega (arith, c.if-nodes-sizes.false)))

@@ -1,7 +1,7 @@
 use lib.ListN.{length}
 use Rattle.reading.specs.Areas.{read_text}
-use Rattle.assured.proofs.Composing.{leaves_answer, composed}
-use Rattle.assured.proofs.joined_text.assured_text.Goals as goal
+use Rattle.assurance.proofs.Composing.{leaves_answer, composed}
+use Rattle.assurance.proofs.texts.assured_text.Goals as goal
 
 pub returns : goal.returns
 returns g c =

@@ -1,2 +1,0 @@
-pub mod BristolSound
-pub mod Composing
