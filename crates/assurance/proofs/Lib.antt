@@ -2,4 +2,4 @@ pub mod Assuring
 pub mod BristolSound
 pub mod Carrying
 pub mod Composing
-pub mod Refusing
+pub mod Running

@@ -1,5 +1,4 @@
 pub mod Assurance
-pub mod Carried
-pub mod Refused
-pub mod Texts
+pub mod Composed
+pub mod Inner
 pub mod Sounds

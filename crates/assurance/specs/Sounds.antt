@@ -3,7 +3,7 @@
 use Rattle.blif.specs.Blif.{blif_lines}
 use Rattle.bench.specs.Bench.{bench_lines}
 use Rattle.blif.proofs.Sound.{blif-sound}
-use Rattle.assurance.specs.Texts.{Sounds}
+use Rattle.assurance.specs.Inner.{Sounds}
 use Rattle.bench.proofs.Sound.{bench-sound}
 
 pub blif_sounds : Sounds blif_lines

@@ -1,9 +1,7 @@
 // A circuit's order, the run along it and `evaluate` in one call.
-ghost use Rattle.std.specs.Prelude.{◌≡◌, ◌*◌, ◌≤◌, ◌<◌, length, take, replicate, IfOk, IfErr};
-ghost use Rattle.circuit.specs.declared.records.TheConstants.{NODE_WORDS, OUTPUT_WORDS};
-ghost use Rattle.circuit.specs.declared.refusals.Refusal.TheVariants.{UnfitOrder};
-ghost use Rattle.assurance.specs.Carried.{RanThenEvaluated, Cleared, Carries};
-ghost use Rattle.assurance.specs.Refused.{RefusedRun, RefusedBoth, RefusesUnordered, RefusesRead};
+ghost use Rattle.std.specs.Prelude.{◌≡◌, length, replicate, IfOk, Err};
+ghost use Rattle.assurance.specs.Composed.{question, CircuitAssured};
+ghost use Rattle.assurance.specs.Inner.{Inside, ReadRun};
 
 use circuit::areas::clear_all;
 use circuit::records::{NODE_WORDS, OUTPUT_WORDS, Sizes};
@@ -12,15 +10,7 @@ use runs::run::run;
 use schedule::scheduled_gates_by_key;
 use values::evaluate::evaluate;
 
-// The answers of the run and of `evaluate`.
-#[derive(Clone, Copy)]
-pub struct Both {
-    pub ran: Result<usize, Refusal>,
-    pub evaluated: Result<usize, Refusal>,
-}
-
-// What is asked of a circuit: an order for a window and keys, and a run for an assignment.
-// The areas lent for writing stay parameters one by one: in a struct each owes a clause on its reference in each function, and without these the proof of a function that passes the struct on did not close.
+/// What is asked of a circuit: an order for a window of at least 1 and three keys for each node, and a run for a value 0, 1 or 2 (unknown) of each input.
 #[derive(Clone, Copy)]
 pub struct Asked<'a> {
     pub window: usize,
@@ -28,55 +18,19 @@ pub struct Asked<'a> {
     pub assignment: &'a [u8],
 }
 
-// The run along an order, then `evaluate`.
-pub fn run_and_evaluate(
-    nodes: &[usize],
-    outputs: &[usize],
-    order: &[usize],
-    assignment: &[u8],
-    values: &mut [u8],
-    answers: &mut [u8],
-    evaluated: &mut [u8],
-) -> Both
-    ensures { RanThenEvaluated nodes.now outputs.now order.now assignment.now values.old answers.old evaluated.old result values.new answers.new evaluated.new }
-{
-    let ran = run(nodes, outputs, order, assignment, values, answers);
-    let evaluated = evaluate(nodes, outputs, assignment, values, evaluated);
-    Both { ran, evaluated }
+/// The answers of the run, a number of cells, and of `evaluate`, a number of outputs.
+#[derive(Clone, Copy)]
+pub struct Both {
+    pub ran: Result<usize, Refusal>,
+    pub evaluated: Result<usize, Refusal>,
 }
 
-// The same for the first entries of an order, where they are no more than the area's; else nothing is run.
-pub fn run_ordered(
-    nodes: &[usize],
-    outputs: &[usize],
-    order: &[usize],
-    cells: usize,
-    assignment: &[u8],
-    values: &mut [u8],
-    answers: &mut [u8],
-    evaluated: &mut [u8],
-) -> Both
-    ensures ran_then_evaluated { cells ≤ length order.now → RanThenEvaluated nodes.now outputs.now (take cells order.now) assignment.now values.old answers.old evaluated.old result values.new answers.new evaluated.new }
-    ensures refused_run { length order.now < cells → RefusedRun UnfitOrder (length values.old) (length answers.old) (length evaluated.old) result values.new answers.new evaluated.new }
-    ensures values_after { values.new ≡ replicate (length values.old) 0 }
-{
-    if order.len() < cells {
-        return refuse_run(Refusal::UnfitOrder, values, answers, evaluated);
-    }
-    run_and_evaluate(
-        nodes,
-        outputs,
-        &order[..cells],
-        assignment,
-        values,
-        answers,
-        evaluated,
-    )
-}
-
-// Nothing is run: both answers are the refusal, and the run's areas are zeros.
-pub fn refuse_run(e: Refusal, values: &mut [u8], answers: &mut [u8], evaluated: &mut [u8]) -> Both
-    ensures { RefusedRun e (length values.old) (length answers.old) (length evaluated.old) result values.new answers.new evaluated.new }
+/// Nothing is run: both answers are the refusal, and the areas of the run and of `evaluate` are zeros.
+pub fn refuse(e: Refusal, values: &mut [u8], answers: &mut [u8], evaluated: &mut [u8]) -> Both
+    ensures answers { (result.ran ≡ Err e) × (result.evaluated ≡ Err e) }
+    ensures values_are { values.new ≡ replicate (length values.old) 0 }
+    ensures answers_are { answers.new ≡ replicate (length answers.old) 0 }
+    ensures evaluated_are { evaluated.new ≡ replicate (length evaluated.old) 0 }
 {
     values.fill(0);
     answers.fill(0);
@@ -87,23 +41,12 @@ pub fn refuse_run(e: Refusal, values: &mut [u8], answers: &mut [u8], evaluated: 
     }
 }
 
-// Nothing is ordered: the schedule's areas are zeros too.
-pub fn refuse_both(
-    e: Refusal,
-    ready: &mut [usize],
-    successors: &mut [usize],
-    order: &mut [usize],
-    values: &mut [u8],
-    answers: &mut [u8],
-    evaluated: &mut [u8],
-) -> Both
-    ensures { RefusedBoth e (length ready.old) (length successors.old) (length order.old) (length values.old) (length answers.old) (length evaluated.old) result ready.new successors.new order.new values.new answers.new evaluated.new }
-{
-    clear_all(ready, successors, order);
-    refuse_run(e, values, answers, evaluated)
-}
-
-// The schedule, the run along its order, and `evaluate`.
+/// The schedule of a circuit, in two areas that hold its records and nothing else; the run along that order; and `evaluate`.
+///
+/// What the schedule refuses is both answers, and every area is then zeros. Once it accepts, its order stands in `order`; the run's answer and outputs
+/// (`answers`) are those of `run` along it, and `evaluate`'s (`evaluated`) are those of `evaluate`, refusals too: where a value is unknown, `evaluate` refuses
+/// with `WrongValues`, and its area is zeros. `ready` (three words for each node), `successors` (two for each node and one) and `values` (a byte for each node)
+/// are work areas, zeros after any call.
 pub fn order_and_run(
     nodes: &[usize],
     outputs: &[usize],
@@ -115,9 +58,24 @@ pub fn order_and_run(
     answers: &mut [u8],
     evaluated: &mut [u8],
 ) -> Both
-    ensures carries { Carries nodes.now outputs.now asked.entry.window asked.entry.keys.now asked.entry.assignment.now values.old (length ready.old) (length successors.old) (length order.old) (length answers.old) (length evaluated.old) result order.new values.new answers.new evaluated.new }
-    ensures refuses_unordered { RefusesUnordered nodes.now outputs.now asked.entry.window asked.entry.keys.now (length ready.old) (length successors.old) (length order.old) (length values.old) (length answers.old) (length evaluated.old) result ready.new successors.new order.new values.new answers.new evaluated.new }
-    ensures cleared { Cleared (length ready.old) (length successors.old) (length values.old) ready.new successors.new values.new }
+    ensures { CircuitAssured nodes.now outputs.now (question asked.entry)
+        (record {
+          ready = ready.old;
+          successors = successors.old;
+          order = order.old;
+          values = values.old;
+          answers = answers.old;
+          evaluated = evaluated.old;
+        })
+        result
+        (record {
+          ready = ready.new;
+          successors = successors.new;
+          order = order.new;
+          values = values.new;
+          answers = answers.new;
+          evaluated = evaluated.new;
+        }) }
 {
     let Asked {
         window,
@@ -125,14 +83,16 @@ pub fn order_and_run(
         assignment,
     } = asked;
     match scheduled_gates_by_key(nodes, outputs, window, keys, ready, successors, order) {
-        Ok(cells) => run_ordered(
-            nodes, outputs, order, cells, assignment, values, answers, evaluated,
-        ),
-        Err(e) => refuse_run(e, values, answers, evaluated),
+        Ok(cells) => {
+            let ran = run(nodes, outputs, &order[..cells], assignment, values, answers);
+            let evaluated = evaluate(nodes, outputs, assignment, values, evaluated);
+            Both { ran, evaluated }
+        }
+        Err(e) => refuse(e, values, answers, evaluated),
     }
 }
 
-// The schedule, the run and `evaluate` on what a reader gave, the first records of two areas; its refusal, where it refused.
+/// The same of what a reader gave, the first records of two areas, or the reader's refusal.
 pub fn run_read(
     nodes: &[usize],
     outputs: &[usize],
@@ -145,35 +105,41 @@ pub fn run_read(
     answers: &mut [u8],
     evaluated: &mut [u8],
 ) -> Both
-    ensures carries { IfOk read (λ sizes. sizes.nodes * NODE_WORDS ≤ length nodes.now → sizes.outputs * OUTPUT_WORDS ≤ length outputs.now → Carries (take (sizes.nodes * NODE_WORDS) nodes.now) (take (sizes.outputs * OUTPUT_WORDS) outputs.now) asked.entry.window asked.entry.keys.now asked.entry.assignment.now values.old (length ready.old) (length successors.old) (length order.old) (length answers.old) (length evaluated.old) result order.new values.new answers.new evaluated.new) }
-    ensures refuses_unread { IfErr read (λ e. RefusedBoth e (length ready.old) (length successors.old) (length order.old) (length values.old) (length answers.old) (length evaluated.old) result ready.new successors.new order.new values.new answers.new evaluated.new) }
-    ensures refuses_read { IfOk read (λ sizes. RefusesRead nodes.now sizes.nodes outputs.now sizes.outputs asked.entry.window asked.entry.keys.now (length ready.old) (length successors.old) (length order.old) (length values.old) (length answers.old) (length evaluated.old) result ready.new successors.new order.new values.new answers.new evaluated.new) }
-    ensures cleared { Cleared (length ready.old) (length successors.old) (length values.old) ready.new successors.new values.new }
+    requires inside { IfOk read (Inside nodes.now outputs.now) }
+    ensures { ReadRun nodes.now outputs.now read (question asked.entry)
+        (record {
+          ready = ready.old;
+          successors = successors.old;
+          order = order.old;
+          values = values.old;
+          answers = answers.old;
+          evaluated = evaluated.old;
+        })
+        result
+        (record {
+          ready = ready.new;
+          successors = successors.new;
+          order = order.new;
+          values = values.new;
+          answers = answers.new;
+          evaluated = evaluated.new;
+        }) }
 {
-    let sizes = match read {
-        Ok(sizes) => sizes,
-        Err(e) => return refuse_both(e, ready, successors, order, values, answers, evaluated),
-    };
-    if nodes.len() / NODE_WORDS < sizes.nodes || outputs.len() / OUTPUT_WORDS < sizes.outputs {
-        return refuse_both(
-            Refusal::Broken,
+    match read {
+        Ok(sizes) => order_and_run(
+            &nodes[..sizes.nodes * NODE_WORDS],
+            &outputs[..sizes.outputs * OUTPUT_WORDS],
+            asked,
             ready,
             successors,
             order,
             values,
             answers,
             evaluated,
-        );
+        ),
+        Err(e) => {
+            clear_all(ready, successors, order);
+            refuse(e, values, answers, evaluated)
+        }
     }
-    order_and_run(
-        &nodes[..sizes.nodes * NODE_WORDS],
-        &outputs[..sizes.outputs * OUTPUT_WORDS],
-        asked,
-        ready,
-        successors,
-        order,
-        values,
-        answers,
-        evaluated,
-    )
 }

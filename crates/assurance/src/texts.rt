@@ -1,11 +1,9 @@
 // A text, read, ordered, run and evaluated in one call.
 ghost use Rattle.std.specs.Prelude.{length};
-ghost use Rattle.circuit.specs.Circuits.{read_answer};
-ghost use Rattle.reading.specs.Areas.{read_text, Leaves};
-ghost use Rattle.bristol.specs.Bristol.{bristol, bristol_circuit};
-ghost use Rattle.bristol.specs.Promises.{Leaves as BristolLeaves};
-ghost use Rattle.assurance.specs.Carried.{Cleared};
-ghost use Rattle.assurance.specs.Texts.{Sounds, Assures, Refuses};
+ghost use Rattle.reading.specs.Areas.{read_text};
+ghost use Rattle.bristol.specs.Bristol.{bristol_circuit};
+ghost use Rattle.assurance.specs.Composed.{question, TextLeft, BristolLeft, TextAssured};
+ghost use Rattle.assurance.specs.Inner.{Sounds};
 ghost use Rattle.assurance.specs.Sounds.{blif_sounds, bench_sounds};
 
 use crate::circuits::{Asked, Both, run_read};
@@ -27,7 +25,10 @@ impl Sound for Bench {
     ghost sounds = { bench_sounds };
 }
 
-/// A text of BLIF or BENCH, read, ordered, run and evaluated. The joined text, the names and the schedule's areas are work areas.
+/// A text of BLIF or BENCH, read, ordered, run and evaluated.
+///
+/// What the reader refuses is both answers, and every area is zeros. Once it accepts, `joined`, `nodes` and `outputs` hold the joined text and the circuit's records
+/// in front, and the rest is `order_and_run` of these records. `names` is a work area, zeros after any call.
 pub fn assured_text<F: Sound>(
     text: &[u8],
     joined: &mut [u8],
@@ -42,10 +43,29 @@ pub fn assured_text<F: Sound>(
     answers: &mut [u8],
     evaluated: &mut [u8],
 ) -> Both
-    ensures leaves { Leaves text.now (read_text F.lines text.now (length joined.old) (length nodes.old) (length names.old) (length outputs.old)) (length joined.old) (length nodes.old) (length names.old) (length outputs.old) (read_answer (read_text F.lines text.now (length joined.old) (length nodes.old) (length names.old) (length outputs.old))) joined.new nodes.new names.new outputs.new }
-    ensures assures { Assures (read_text F.lines text.now (length joined.old) (length nodes.old) (length names.old) (length outputs.old)) asked.entry.window asked.entry.keys.now asked.entry.assignment.now values.old (length ready.old) (length successors.old) (length order.old) (length answers.old) (length evaluated.old) result order.new values.new answers.new evaluated.new }
-    ensures refuses { Refuses (read_text F.lines text.now (length joined.old) (length nodes.old) (length names.old) (length outputs.old)) asked.entry.window asked.entry.keys.now (length ready.old) (length successors.old) (length order.old) (length values.old) (length answers.old) (length evaluated.old) result ready.new successors.new order.new values.new answers.new evaluated.new }
-    ensures cleared { Cleared (length ready.old) (length successors.old) (length values.old) ready.new successors.new values.new }
+    ensures left { TextLeft F.lines text.now
+        (length joined.old) (length nodes.old) (length names.old) (length outputs.old)
+        joined.new nodes.new names.new outputs.new }
+    ensures assured { TextAssured
+        (read_text F.lines text.now (length joined.old) (length nodes.old) (length names.old) (length outputs.old))
+        (question asked.entry)
+        (record {
+          ready = ready.old;
+          successors = successors.old;
+          order = order.old;
+          values = values.old;
+          answers = answers.old;
+          evaluated = evaluated.old;
+        })
+        result
+        (record {
+          ready = ready.new;
+          successors = successors.new;
+          order = order.new;
+          values = values.new;
+          answers = answers.new;
+          evaluated = evaluated.new;
+        }) }
 {
     let read = parse::<F>(text, joined, nodes, names, outputs);
     run_read(
@@ -53,7 +73,7 @@ pub fn assured_text<F: Sound>(
     )
 }
 
-/// A Bristol text, read, ordered, run and evaluated; its reader takes an area for the wires instead.
+/// A Bristol text, read, ordered, run and evaluated; as `assured_text`, but that its reader takes an area for the wires, a work area, zeros after any call.
 pub fn assured_bristol(
     text: &[u8],
     nodes: &mut [usize],
@@ -67,10 +87,28 @@ pub fn assured_bristol(
     answers: &mut [u8],
     evaluated: &mut [u8],
 ) -> Both
-    ensures leaves { BristolLeaves (bristol text.now (length nodes.old) (length outputs.old) (length wires.old)) (bristol text.now (length nodes.old) (length outputs.old) (length wires.old)).answer nodes.new outputs.new wires.new }
-    ensures assures { Assures (bristol_circuit text.now (length nodes.old) (length outputs.old) (length wires.old)) asked.entry.window asked.entry.keys.now asked.entry.assignment.now values.old (length ready.old) (length successors.old) (length order.old) (length answers.old) (length evaluated.old) result order.new values.new answers.new evaluated.new }
-    ensures refuses { Refuses (bristol_circuit text.now (length nodes.old) (length outputs.old) (length wires.old)) asked.entry.window asked.entry.keys.now (length ready.old) (length successors.old) (length order.old) (length values.old) (length answers.old) (length evaluated.old) result ready.new successors.new order.new values.new answers.new evaluated.new }
-    ensures cleared { Cleared (length ready.old) (length successors.old) (length values.old) ready.new successors.new values.new }
+    ensures left { BristolLeft text.now (length nodes.old) (length outputs.old) (length wires.old)
+        nodes.new outputs.new wires.new }
+    ensures assured { TextAssured
+        (bristol_circuit text.now (length nodes.old) (length outputs.old) (length wires.old))
+        (question asked.entry)
+        (record {
+          ready = ready.old;
+          successors = successors.old;
+          order = order.old;
+          values = values.old;
+          answers = answers.old;
+          evaluated = evaluated.old;
+        })
+        result
+        (record {
+          ready = ready.new;
+          successors = successors.new;
+          order = order.new;
+          values = values.new;
+          answers = answers.new;
+          evaluated = evaluated.new;
+        }) }
 {
     let read = parse_bristol(text, nodes, outputs, wires);
     run_read(

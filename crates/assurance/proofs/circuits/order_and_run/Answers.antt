@@ -1,9 +1,30 @@
-use Rattle.assurance.proofs.Carrying.{never_refused, carried_by}
-use Rattle.assurance.proofs.Refusing.{ready_cleared, successors_cleared, never_ordered, refused_unordered}
+use mathlib.Core.Path.{sym}
+use lib.Seq.{length-take-le}
+use Rattle.assurance.specs.Composed.{question}
+use Rattle.assurance.proofs.Running.{refused_run, cells_inside, accepted_run, circuit_assured}
+use Rattle.assurance.specs.Assurance.{Areas}
 use Rattle.assurance.proofs.circuits.order_and_run.Goals as goal
 
-pub returns-in-Err : goal.returns-in-Err
-returns-in-Err c = record { carries = λ x p q checks lent room. absurd (never_refused x c.args.asked.window c.args.asked.keys.now c.args.asked.assignment.now c.args.values.now c.args.ready.now c.args.successors.now c.args.order.now c.args.answers.now c.args.evaluated.now c.args.nodes.now c.args.outputs.now p q checks lent c.scheduled_gates_by_key.result _ _ _ c.scheduled_gates_by_key.ensures _ c.in-Err.is); refuses_unordered = λ e fault. refused_unordered c.args.nodes.now c.args.outputs.now c.args.asked.window c.args.asked.keys.now c.args.ready.now c.args.successors.now c.args.order.now c.scheduled_gates_by_key.result _ _ _ c.scheduled_gates_by_key.ensures e fault _ c.in-Err.is _ _ _ _ _ _ _ c.refuse_run.ensures; cleared = record { ready_is = ready_cleared c.args.nodes.now c.args.outputs.now c.args.asked.window c.args.asked.keys.now c.args.ready.now c.args.successors.now c.args.order.now _ _ _ _ c.scheduled_gates_by_key.ensures; successors_are = successors_cleared c.args.nodes.now c.args.outputs.now c.args.asked.window c.args.asked.keys.now c.args.ready.now c.args.successors.now c.args.order.now _ _ _ _ c.scheduled_gates_by_key.ensures; values_are = c.refuse_run.ensures.values_are } }
+pub slice_bounds-run-end : goal.slice_bounds-run-end
+slice_bounds-run-end c = cells_inside c.args.nodes.now c.args.outputs.now (question c.args.asked) (record { ready = c.args.ready.now; successors = c.args.successors.now; order = c.args.order.now; values = c.args.values.now; answers = c.args.answers.now; evaluated = c.args.evaluated.now }) _ _ _ c.in-Ok.cells (rw c.in-Ok.is at c.scheduled_gates_by_key.ensures)
+
+pub slice_bounds-run-end-in-Ok : goal.slice_bounds-run-end-in-Ok
+slice_bounds-run-end-in-Ok c = sym (length-take-le c.in-Ok.cells c.scheduled_gates_by_key.new.order (cells_inside c.args.nodes.now c.args.outputs.now (question c.args.asked) (record { ready = c.args.ready.now; successors = c.args.successors.now; order = c.args.order.now; values = c.args.values.now; answers = c.args.answers.now; evaluated = c.args.evaluated.now }) _ _ _ c.in-Ok.cells (rw c.in-Ok.is at c.scheduled_gates_by_key.ensures)))
 
 pub returns-in-Ok : goal.returns-in-Ok
-returns-in-Ok c = record { carries = λ x p q checks lent room. carried_by x c.args.asked.window c.args.asked.keys.now c.args.asked.assignment.now c.args.values.now c.args.ready.now c.args.successors.now c.args.order.now c.args.answers.now c.args.evaluated.now c.args.nodes.now c.args.outputs.now p q checks lent c.scheduled_gates_by_key.result _ _ _ c.scheduled_gates_by_key.ensures _ c.in-Ok.is room c.run_ordered.result _ _ _ c.run_ordered.ensures.ran_then_evaluated; refuses_unordered = λ e fault. absurd (never_ordered c.args.nodes.now c.args.outputs.now c.args.asked.window c.args.asked.keys.now c.args.ready.now c.args.successors.now c.args.order.now c.scheduled_gates_by_key.result _ _ _ c.scheduled_gates_by_key.ensures e fault _ c.in-Ok.is); cleared = record { ready_is = ready_cleared c.args.nodes.now c.args.outputs.now c.args.asked.window c.args.asked.keys.now c.args.ready.now c.args.successors.now c.args.order.now _ _ _ _ c.scheduled_gates_by_key.ensures; successors_are = successors_cleared c.args.nodes.now c.args.outputs.now c.args.asked.window c.args.asked.keys.now c.args.ready.now c.args.successors.now c.args.order.now _ _ _ _ c.scheduled_gates_by_key.ensures; values_are = c.run_ordered.ensures.values_after } }
+returns-in-Ok c =
+    let q = question c.args.asked in
+    let before : Areas = record { ready = c.args.ready.now; successors = c.args.successors.now; order = c.args.order.now; values = c.args.values.now; answers = c.args.answers.now; evaluated = c.args.evaluated.now } in
+    circuit_assured c.args.nodes.now c.args.outputs.now q before _ _
+    (accepted_run c.args.nodes.now c.args.outputs.now q before _ _ _ c.in-Ok.cells (rw c.in-Ok.is at c.scheduled_gates_by_key.ensures)
+    (record { ran = c.run-ran.result; evaluated = c.evaluate-evaluated.result }) c.run-ran.new.values c.evaluate-evaluated.new.values c.run-ran.new.answers c.evaluate-evaluated.new.answers
+    c.run-ran.auto.values c.run-ran.ensures c.evaluate-evaluated.ensures)
+
+pub returns-in-Err : goal.returns-in-Err
+returns-in-Err c =
+    let q = question c.args.asked in
+    let before : Areas = record { ready = c.args.ready.now; successors = c.args.successors.now; order = c.args.order.now; values = c.args.values.now; answers = c.args.answers.now; evaluated = c.args.evaluated.now } in
+    circuit_assured c.args.nodes.now c.args.outputs.now q before _ _
+    (refused_run c.args.nodes.now c.args.outputs.now q before _ _ _ c.in-Err.e (rw c.in-Err.is at c.scheduled_gates_by_key.ensures)
+    c.refuse.result c.refuse.new.values c.refuse.new.answers c.refuse.new.evaluated
+    c.refuse.ensures.answers.0 c.refuse.ensures.answers.1 c.refuse.ensures.values_are c.refuse.ensures.answers_are c.refuse.ensures.evaluated_are)

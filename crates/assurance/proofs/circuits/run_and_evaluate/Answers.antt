@@ -1,5 +1,0 @@
-use Rattle.assurance.proofs.Carrying.{ran-then-evaluated}
-use Rattle.assurance.proofs.circuits.run_and_evaluate.Goals as goal
-
-pub returns : goal.returns
-returns c = ran-then-evaluated c.args.nodes.now c.args.outputs.now c.args.order.now c.args.assignment.now c.args.values.now c.args.answers.now c.args.evaluated.now (record { ran = c.run-ran.result; evaluated = c.evaluate-evaluated.result }) c.run-ran.new.values _ _ _ c.run-ran.ensures c.run-ran.auto.values c.evaluate-evaluated.ensures
