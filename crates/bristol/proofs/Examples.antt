@@ -23,12 +23,13 @@ use Rattle.text.specs.Bytes.{is_ascii, upper}
 use Rattle.text.specs.Words.{words, split_whitespace}
 use Rattle.text.specs.Lines.{raw_lines, uncommented, kept, kept_of, kept_lines}
 use Rattle.text.specs.Numbers.{all_digits, value_from, digits_from, digits, parse_usize, parse_each}
+use Rattle.reading.specs.Reading.{add_node, each}
 use Rattle.bristol_rows.specs.Numbers.{number, each_number}
 use Rattle.bristol_rows.specs.Header.{grouped_wire_count, groups, group_lines, two_numbers, header}
-use Rattle.bristol_rows.specs.Operation.{is_alias, inverts, two_input_table, truth_table, operation}
+use Rattle.bristol_rows.specs.Operation.{is_alias, inverts, operation}
 use Rattle.bristol_rows.specs.Slots.{wire_number}
-use Rattle.bristol_rows.specs.Row.{drivers, row_output, row_wires, row}
-use Rattle.bristol.specs.Bristol.{wire_input, drive, store_cell, store, row_step, rows, outputs_from, start, body, circuit, bristol_circuit, bristol}
+use Rattle.bristol_rows.specs.Row.{drivers, gates_of, row_output, row_wires, operation_row, row}
+use Rattle.bristol.specs.Bristol.{wire_input, drive, store_cell, store_gate, row_step, outputs_from, start, body, circuit, bristol_circuit, bristol}
 
 -- a quoted text as bytes
 unfoldable pub bytes : String → List ℕ
@@ -140,7 +141,7 @@ cases =
     []
 
 pub all_right : right cases ≡ true
-unfolding right cases answered bytes bristol bristol_circuit circuit body start outputs_from rows row_step store store_cell drive row row_wires row_output drivers operation truth_table two_input_table inverts is_alias header two_numbers group_lines groups grouped_wire_count each_number number parse_each parse_usize digits digits_from value_from all_digits kept_lines kept_of kept uncommented raw_lines split_whitespace words upper is_ascii trim trim_end trim_start is_blank sum stretch same_bytes capacity
+unfolding right cases answered bytes bristol bristol_circuit circuit body start outputs_from row_step store_cell drive each add_node store_gate row operation_row row_wires row_output gates_of drivers operation inverts is_alias header two_numbers group_lines groups grouped_wire_count each_number number parse_each parse_usize digits digits_from value_from all_digits kept_lines kept_of kept uncommented raw_lines split_whitespace words upper is_ascii trim trim_end trim_start is_blank sum stretch same_bytes capacity
 all_right = refl
 
 -- ---- the areas: nodes for two inputs and a cell, one place short for the cell, for the inputs; a wire driven twice is told after that; words that
@@ -162,7 +163,7 @@ at text nodes outputs wires = first (answered (bristol (bytes text) nodes output
 
 pub rooms : at xor 27 5 3 ∷ at xor 26 5 3 ∷ at xor 17 5 3 ∷ at twice 27 5 3 ∷ at twice 36 5 3 ∷ at xor 27 4 3 ∷ at xor 27 5 2 ∷ at "1 3\n1 2\n1 1\n1 1 0 1 INV\n" 18 0 3 ∷ []
     ≡ 0 ∷ 3 ∷ 3 ∷ 3 ∷ 14 ∷ 3 ∷ 3 ∷ 3 ∷ []
-unfolding at answered bytes bristol bristol_circuit circuit body start outputs_from rows row_step store store_cell drive row row_wires row_output drivers operation truth_table two_input_table inverts is_alias header two_numbers group_lines groups grouped_wire_count each_number number parse_each parse_usize digits digits_from value_from all_digits kept_lines kept_of kept uncommented raw_lines split_whitespace words upper is_ascii trim trim_end trim_start is_blank sum stretch same_bytes capacity
+unfolding at answered bytes bristol bristol_circuit circuit body start outputs_from row_step store_cell drive each add_node store_gate row operation_row row_wires row_output gates_of drivers operation inverts is_alias header two_numbers group_lines groups grouped_wire_count each_number number parse_each parse_usize digits digits_from value_from all_digits kept_lines kept_of kept uncommented raw_lines split_whitespace words upper is_ascii trim trim_end trim_start is_blank sum stretch same_bytes capacity
 rooms = refl
 
 -- ---- the full adder's circuit, record by record
@@ -183,5 +184,5 @@ pub adder_is : bristol_circuit (bytes adder) 90 10 8 ≡ Ok (record {
   nodes = wire_input 0 ∷ wire_input 1 ∷ wire_input 2 ∷ gate 3 6 (n 0) (n 1) ∷ gate 6 6 (n 3) (n 2) ∷ gate 4 8 (n 0) (n 1) ∷ gate 5 8 (n 3) (n 2) ∷ gate 7 14 (n 5) (n 6) ∷ [];
   outputs = output 6 (n 4) ∷ output 7 (n 7) ∷ [];
 })
-unfolding bytes bristol_circuit circuit body start outputs_from rows row_step store store_cell drive row row_wires row_output drivers operation truth_table two_input_table inverts is_alias header two_numbers group_lines groups grouped_wire_count each_number number parse_each parse_usize digits digits_from value_from all_digits kept_lines kept_of kept uncommented raw_lines split_whitespace words upper is_ascii trim trim_end trim_start is_blank sum stretch same_bytes capacity
+unfolding bytes bristol_circuit circuit body start outputs_from row_step store_cell drive each add_node store_gate row operation_row row_wires row_output gates_of drivers operation inverts is_alias header two_numbers group_lines groups grouped_wire_count each_number number parse_each parse_usize digits digits_from value_from all_digits kept_lines kept_of kept uncommented raw_lines split_whitespace words upper is_ascii trim trim_end trim_start is_blank sum stretch same_bytes capacity
 adder_is = refl

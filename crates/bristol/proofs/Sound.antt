@@ -1,105 +1,79 @@
 -- Every circuit that the reader of Bristol texts accepts passes the circuit check.
 -- Assumes nothing.
-use Rattle.std.specs.Prelude.{Err, Ok}
+use Rattle.std.specs.Prelude.{Ok}
 use Prim.Native.Nat.{ℕ, zero, suc, ◌+◌, ◌-◌, ◌<◌, ◌≤◌, ◌^◌}
 use mathlib.Core.Path.{◌≡◌, refl, sym, ap, ◌∙◌, subst}
 use mathlib.Core.Bool.{Bool, true, false, cond}
 use mathlib.Core.List.{List, [], ◌∷◌, ◌++◌, map}
 use native.Mathlib.Nat.{zero-add}
 use native.Mathlib.Omega.{arith}
-use lib.Dec.{eqb, leb, ltb, lit<}
+use lib.Dec.{eqb, leb, ltb}
 use lib.ListN.{length, get_or, set, drop, replicate}
 use lib.Seq.{get_or-set_same, get_or-set_other, get_or-drop, set_out}
 use borrow.Author.Tests.{eqb-true, eqb-false, ltb-true, ltb-false, leb-false, lt-leb}
 use Rattle.std.proofs.lemmas.Bool.{or_parts}
 use Rattle.laws.specs.Areas.{up_from, capacity}
+use Rattle.laws.specs.Stretches.{All}
 use Rattle.laws.proofs.Areas.{length_up}
 use Rattle.laws.proofs.Filling.{length_snoc}
 use Rattle.laws.proofs.Sums.{front_at, past_front}
 use Rattle.circuit.specs.declared.records.Name.TheVariants.{Number}
 use Rattle.circuit.specs.declared.records.TheConstants.{WIRES, NODE_WORDS, OUTPUT_WORDS}
-use Rattle.circuit.specs.declared.refusals.Refusal.TheVariants.{Unknown, WrongCount}
+use Rattle.circuit.specs.declared.refusals.Refusal.TheVariants.{NoRoom, Unknown, WrongCount}
 use Rattle.circuit.specs.declared.records.WireNumber.{WireNumber}
 use Rattle.circuit.specs.declared.records.BoolWire.{BoolWire}
 use Rattle.circuit.specs.declared.records.BoolWire.TheVariants.{Const, Node}
 use Rattle.circuit.specs.declared.records.BoolNode.{BoolNode}
 use Rattle.circuit.specs.declared.records.Output.{Output}
-use Rattle.circuit.specs.Refusals.{Try, and_then, need}
-use Rattle.circuit.specs.Records.{wire_of, wire_word, no_wire, cell_node}
+use Rattle.circuit.specs.Refusals.{need}
+use Rattle.circuit.specs.Records.{wire_of, wire_word, wires_of, no_wire}
 use Rattle.circuit.specs.Check.{not_below, some_not_below}
 use Rattle.circuit.specs.Circuits.{Circuit, KeepsRules}
 use Rattle.circuit.proofs.Tries.{no_yes, yes_same, then_yes, need-yes}
 use Rattle.circuit.proofs.Sitting.{each_padded, AllSit, Sits, sit_more, circuit_checked, word_below, input_sits, cell_sits}
+use Rattle.circuit.proofs.Checks.{below_more, all_below_more}
+use Rattle.reading.specs.Reading.{add_node, each}
+use Rattle.reading.proofs.Sound.{each_keeps}
 use Rattle.text.specs.declared.TheConstants.{MOST_TEXT}
 use Rattle.text.specs.Bytes.{is_ascii, is_named}
 use Rattle.text.specs.Words.{split_whitespace}
 use Rattle.text.specs.Lines.{kept_lines}
 use Rattle.bristol_rows.specs.declared.answers.Head.{Head}
 use Rattle.bristol_rows.specs.Header.{header}
-use Rattle.bristol_rows.specs.Operation.{is_alias, inverts, two_input_table, truth_table, Op, same, table, operation}
+use Rattle.bristol_rows.specs.declared.gates.Gate.{Gate}
+use Rattle.bristol_rows.specs.declared.gates.Gate.TheVariants.{Alias, Cell}
+use Rattle.bristol_rows.specs.declared.operation.Operation.{Operation}
+use Rattle.bristol_rows.specs.declared.operation.Operation.TheVariants.{Copy, One, Two, Unlisted}
+use Rattle.bristol_rows.specs.Operation.{is_alias, inverts, operation}
 use Rattle.bristol_rows.specs.Slots.{wire_number, node_number}
-use Rattle.bristol_rows.specs.Row.{drivers, Gate, alias, cell, gate, row}
+use Rattle.bristol_rows.specs.Row.{drivers, cell_gate, gates_on, row}
 use Rattle.bristol_rows.proofs.Accepted.{Accepts, accepted}
-use Rattle.bristol_rows.proofs.InputLaws.{front, drivers-nil, drivers-length}
-use Rattle.bristol.specs.Bristol.{State, drive, store_cell, store, row_step, rows, output_of, outputs_from, wire_input, input_slot, start, body, circuit, bristol_circuit}
+use Rattle.bristol_rows.proofs.InputLaws.{front, drivers-nil}
+use Rattle.bristol.specs.Bristol.{State, drive, drive_with, store_cell, store_gate, store, row_step, rows, output_of, outputs_from, wire_input, input_slot, start, body, circuit, bristol_circuit}
 
--- ---- the operation: so many inputs as a record has places for, and a table with no bits above its entries
+-- ---- the operation: a table with no bits above its entries
 
-record Fits (n t : ℕ) : Type 0 where
-  some : 1 ≤ n
-  few : n ≤ WIRES
-  table : t < 2 ^ 2 ^ n
+abbrev TableFits : Operation → Type 0
+TableFits (One t) = t < 4
+TableFits (Two t) = t < 16
+TableFits Copy = Unit
+TableFits Unlisted = Unit
 
-cond_yes : {A : Type 0} (P : A → Type 0) (t : Bool) (a b : Try A) (x : A) → cond t a b ≡ Ok x → (a ≡ Ok x → P x) → (b ≡ Ok x → P x) → P x
-cond_yes P true a b x h f g = f h
-cond_yes P false a b x h f g = g h
-
-small : (k t : ℕ) → k < 16 → ◌≡◌ {A = Try ℕ} (Ok k) (Ok t) → t < 16
-small k t l e = subst (λ (x : ℕ). x < 16) (yes_same e) l
-
-two_small : (w : List ℕ) (t : ℕ) → two_input_table w ≡ Ok t → t < 16
-unfolding two_input_table
-two_small w t h =
-    cond_yes P (is_named w (65 ∷ 78 ∷ 68 ∷ [])) _ _ t h (small 8 t (omega arith))
-    (λ h. cond_yes P (is_named w (78 ∷ 65 ∷ 78 ∷ 68 ∷ [])) _ _ t h (small 7 t (omega arith))
-    (λ h. cond_yes P (is_named w (79 ∷ 82 ∷ [])) _ _ t h (small 14 t (omega arith))
-    (λ h. cond_yes P (is_named w (78 ∷ 79 ∷ 82 ∷ [])) _ _ t h (small 1 t (omega arith))
-    (λ h. cond_yes P (is_named w (88 ∷ 79 ∷ 82 ∷ [])) _ _ t h (small 6 t (omega arith))
-    (λ h. cond_yes P (is_named w (88 ∷ 78 ∷ 79 ∷ 82 ∷ [])) _ _ t h (small 9 t (omega arith)) (λ h. absurd (no_yes h)))))))
-  where
-    P : ℕ → Type 0
-    P x = x < 16
-
-table_fits : (w : List ℕ) (n t : ℕ) → truth_table w n ≡ Ok t → Fits n t
-unfolding truth_table
-table_fits w n t h = go (eqb n 1) refl (eqb n 2) refl h
-  where
-    go : (a : Bool) → eqb n 1 ≡ a → (b : Bool) → eqb n 2 ≡ b → cond a (need (inverts w) Unknown (Ok 1)) (cond b (two_input_table w) (Err Unknown)) ≡ Ok t → Fits n t
-    go true e b f h =
-        let q : 1 ≡ t = yes_same (need-yes (inverts w) Unknown (Ok 1) t h).1 in
-        let one : n ≡ 1 = eqb-true n 1 e in
-        record { some = omega arith; few = omega arith; table = rw (one, ← q) (lit< tt) }
-    go false e true f h =
-        let two : n ≡ 2 = eqb-true n 2 f in
-        record { some = omega arith; few = omega arith; table = rw two (two_small w t h) }
-    go false e false f h = absurd (no_yes h)
-
--- what an operation makes of so many drivers
-abbrev OpFits : ℕ → Op → Type 0
-OpFits n same = n ≡ 1
-OpFits n (table t) = Fits n t
-
-op_fits : (w : List ℕ) (n : ℕ) (op : Op) → operation w n ≡ Ok op → OpFits n op
+table_fits : (w : List ℕ) → TableFits (operation w)
 unfolding operation
-op_fits w n op h = go (is_alias w) h
+table_fits w =
+    either (is_named w (65 ∷ 78 ∷ 68 ∷ [])) _ _ (omega arith)
+    (either (is_named w (78 ∷ 65 ∷ 78 ∷ 68 ∷ [])) _ _ (omega arith)
+    (either (is_named w (79 ∷ 82 ∷ [])) _ _ (omega arith)
+    (either (is_named w (78 ∷ 79 ∷ 82 ∷ [])) _ _ (omega arith)
+    (either (is_named w (88 ∷ 79 ∷ 82 ∷ [])) _ _ (omega arith)
+    (either (is_named w (88 ∷ 78 ∷ 79 ∷ 82 ∷ [])) _ _ (omega arith)
+    (either (inverts w) _ _ (omega arith)
+    (either (is_alias w) _ _ tt tt)))))))
   where
-    go : (a : Bool) → cond a (need (eqb n 1) WrongCount (Ok same)) (and_then (truth_table w n) (λ t. Ok (table t))) ≡ Ok op → OpFits n op
-    go true h =
-        let a = need-yes (eqb n 1) WrongCount (Ok same) op h in
-        subst (OpFits n) (yes_same a.1) (eqb-true n 1 a.0)
-    go false h =
-        let a = then_yes (truth_table w n) _ op h in
-        subst (OpFits n) (yes_same a.2) (table_fits w n a.0 a.1)
+    either : (t : Bool) (x y : Operation) → TableFits x → TableFits y → TableFits (cond t x y)
+    either true x y p q = p
+    either false x y p q = q
 
 -- ---- the drivers are there
 
@@ -126,21 +100,30 @@ first_below m (d ∷ ds) h = (or_parts (not_below m d) (some_not_below m ds) h).
 
 -- a gate whose wire is there, or whose cell keeps the rules
 abbrev GateSound : ℕ → Gate → Type 0
-GateSound m (alias out w) = not_below m w ≡ false
-GateSound m (cell out n) = Sits m n
+GateSound m (Alias out w) = not_below m w ≡ false
+GateSound m (Cell out n) = Sits m n
 
-row_cell_sits : (m : ℕ) (out : WireNumber) (t : ℕ) (ds : List BoolWire) → some_not_below m ds ≡ false → Fits (length ds) t → Sits m (cell_node (Number out) t ds)
-row_cell_sits m out t ds b f = cell_sits m (Number out) t ds f.some f.few f.table b
+cell_sound : (m : ℕ) (out : WireNumber) (t k : ℕ) (ds : List BoolWire) → some_not_below m ds ≡ false → length ds ≡ k → 1 ≤ k → k ≤ WIRES → t < 2 ^ 2 ^ k
+    → All (GateSound m) (cell_gate out t ds)
+cell_sound m out t k ds b e l h f = (cell_sits m (Number out) t ds (omega arith) (omega arith) (rw e f) b, tt)
 
-gate-sound : (m : ℕ) (wires : List ℕ) → Wired m wires → (ws : List (List ℕ)) (g : Gate) → Accepts wires ws g → GateSound m g
-gate-sound m wires h ws g r =
-    subst (GateSound m) r.is (go r.op (op_fits _ (length r.ins) r.op r.op_is))
+gates_sound : (m : ℕ) (wires : List ℕ) → Wired m wires → (ws : List (List ℕ)) (gs : List Gate) → Accepts wires ws gs → All (GateSound m) gs
+gates_sound m wires h ws gs r = go (operation _) (table_fits _) r.gates_are
   where
-    go : (op : Op) → OpFits (length r.ins) op → GateSound m (gate (wire_number r.out) r.ds op)
-    go same f = first_below m r.ds (drivers_below m wires h r.ins r.ds r.ds_are)
-    go (table t) f =
-        row_cell_sits m (wire_number r.out) t r.ds (drivers_below m wires h r.ins r.ds r.ds_are)
-        (subst (λ (k : ℕ). Fits k t) (sym (drivers-length wires r.ins r.ds r.ds_are)) f)
+    below : some_not_below m r.ds ≡ false
+    below = drivers_below m wires h r.ins r.ds r.ds_are
+
+    go : (op : Operation) → TableFits op → gates_on (wire_number r.out) r.ds op ≡ Ok gs → All (GateSound m) gs
+    go Copy f q =
+        let a = need-yes (eqb (length r.ds) 1) WrongCount _ gs q in
+        subst (All (GateSound m)) (yes_same a.1) (first_below m r.ds below, tt)
+    go (One t) f q =
+        let a = need-yes (eqb (length r.ds) 1) Unknown _ gs q in
+        subst (All (GateSound m)) (yes_same a.1) (cell_sound m (wire_number r.out) t 1 r.ds below (eqb-true (length r.ds) 1 a.0) (omega arith) (omega arith) f)
+    go (Two t) f q =
+        let a = need-yes (eqb (length r.ds) 2) Unknown _ gs q in
+        subst (All (GateSound m)) (yes_same a.1) (cell_sound m (wire_number r.out) t 2 r.ds below (eqb-true (length r.ds) 2 a.0) (omega arith) (omega arith) f)
+    go Unlisted f q = absurd (no_yes q)
 
 -- ---- the rows in turn
 
@@ -165,31 +148,53 @@ wire_small m (Const true) h = omega arith
 wire_small m (Const false) h = omega arith
 wire_small m (Node n) h = omega (arith, leb-false m n.0 h)
 
-drive-sound : (out : WireNumber) (w : BoolWire) (ns : List BoolNode) (ws : List ℕ) (s' : State) → AllSit 0 ns → Wired (length ns) ws → not_below (length ns) w ≡ false
-    → drive out w ns ws ≡ Ok s' → StateSound s'
+drive-sound : (out : WireNumber) (w : BoolWire) (ns : List BoolNode) (ws : List ℕ) (s : State) → AllSit 0 ns → Wired (length ns) ws → not_below (length ns) w ≡ false
+    → drive_with ns out w ws ≡ Ok s → StateSound s × (length s.nodes ≡ length ns)
 unfolding drive
-drive-sound out w ns ws s' a b c h =
-    subst StateSound (yes_same (need-yes (eqb (get_or ws out.0 0) 0) _ _ s' h).1)
-    (record { sits = a; wired = wired_set (length ns) ws b out.0 (wire_word w + 1) (wire_small (length ns) w c) })
+drive-sound out w ns ws s a b c h =
+    let d = then_yes (drive out w ws) _ s h in
+    let e : set ws out.0 (wire_word w + 1) ≡ d.0 = yes_same (need-yes (eqb (get_or ws out.0 0) 0) _ _ d.0 d.1).1 in
+    subst (λ (z : State). StateSound z × (length z.nodes ≡ length ns)) (yes_same d.2)
+    (record { sits = a; wired = subst (Wired (length ns)) e (wired_set (length ns) ws b out.0 (wire_word w + 1) (wire_small (length ns) w c)) }, refl)
 
-store-sound : (room : ℕ) (g : Gate) (s s' : State) → StateSound s → GateSound (length s.nodes) g → store room g s ≡ Ok s' → StateSound s'
-unfolding store store_cell
-store-sound room (alias out w) s s' k b h = drive-sound out w s.nodes s.wires s' k.sits k.wired b h
-store-sound room (cell out n) s s' k b h =
-    let more : length (s.nodes ++ (n ∷ [])) ≡ suc (length s.nodes) = length_snoc s.nodes n in
-    drive-sound out (Node (node_number (length s.nodes))) (s.nodes ++ (n ∷ [])) s.wires s'
+gate-sound : (room : ℕ) (g : Gate) (s s' : State) → StateSound s → GateSound (length s.nodes) g → store_gate room g s ≡ Ok s'
+    → StateSound s' × (length s.nodes ≤ length s'.nodes)
+unfolding store_gate store_cell add_node
+gate-sound room (Alias out w) s s' k b h =
+    let d = drive-sound out w s.nodes s.wires s' k.sits k.wired b h in
+    (d.0, omega (arith, d.1))
+gate-sound room (Cell out n) s s' k b h =
+    let ns : List BoolNode = s.nodes ++ (n ∷ []) in
+    let a = then_yes (need (ltb (length s.nodes) room) NoRoom (Ok ns)) _ s' h in
+    let q : ns ≡ a.0 = yes_same (need-yes (ltb (length s.nodes) room) NoRoom (Ok ns) a.0 a.1).1 in
+    let more : length ns ≡ suc (length s.nodes) = length_snoc s.nodes n in
+    let d = drive-sound out (Node (node_number (length s.nodes))) ns s.wires s'
     (sit_more 0 s.nodes n k.sits (subst (λ (i : ℕ). Sits i n) (sym (zero-add (length s.nodes))) b))
-    (λ i. omega (arith, k.wired i, more)) (lt-leb (length (s.nodes ++ (n ∷ []))) (length s.nodes) (omega (arith, more)))
-    (need-yes (ltb (length s.nodes) room) _ _ s' h).1
+    (λ i. omega (arith, k.wired i, more)) (lt-leb (length ns) (length s.nodes) (omega (arith, more)))
+    (rw (← q) at a.2) in
+    (d.0, omega (arith, d.1, more))
 
-rows-sound : (room : ℕ) (ls : List (List ℕ)) (s s' : State) → StateSound s → rows room ls s ≡ Ok s' → StateSound s'
-unfolding rows row_step
-rows-sound room [] s s' k h = subst StateSound (yes_same h) k
-rows-sound room (l ∷ ls) s s' k h =
-    let a = then_yes (row_step room l s) (rows room ls) s' h in
-    let b = then_yes (row s.wires (split_whitespace l)) (λ g. store room g s) a.0 a.1 in
-    let g = gate-sound (length s.nodes) s.wires k.wired (split_whitespace l) b.0 (accepted s.wires (split_whitespace l) b.0 b.1) in
-    rows-sound room ls a.0 s' (store-sound room b.0 s a.0 k g b.2) a.2
+-- later gates of a row are stored among more nodes
+still_sound : (k m : ℕ) → k ≤ m → (gs : List Gate) → All (GateSound k) gs → All (GateSound m) gs
+still_sound k m l [] h = tt
+still_sound k m l (Alias out w ∷ gs) h = (below_more k m l w h.0, still_sound k m l gs h.1)
+still_sound k m l (Cell out n ∷ gs) h =
+    (record { padded = h.0.padded; rules = h.0.rules; earlier = all_below_more k m l (wires_of n) h.0.earlier }, still_sound k m l gs h.1)
+
+store-sound : (room : ℕ) (gs : List Gate) (s s' : State) → StateSound s → All (GateSound (length s.nodes)) gs → store room gs s ≡ Ok s' → StateSound s'
+unfolding each
+store-sound room [] s s' k b h = subst StateSound (yes_same h) k
+store-sound room (g ∷ gs) s s' k b h =
+    let a = then_yes (store_gate room g s) (each (store_gate room) gs) s' h in
+    let c = gate-sound room g s a.0 k b.0 a.1 in
+    store-sound room gs a.0 s' c.0 (still_sound (length s.nodes) (length a.0.nodes) c.1 gs b.1) a.2
+
+row-sound : (room : ℕ) (l : List ℕ) (s s' : State) → StateSound s → row_step room l s ≡ Ok s' → StateSound s'
+unfolding row_step
+row-sound room l s s' k h =
+    let ws = split_whitespace l in
+    let b = then_yes (row s.wires ws) _ s' h in
+    store-sound room b.0 s s' k (gates_sound (length s.nodes) s.wires k.wired ws b.0 (accepted s.wires ws b.0 b.1)) b.2
 
 -- ---- the start
 
@@ -245,6 +250,6 @@ bristol-sound text nodes outputs wires c e =
     let g = need-yes (eqb (length (drop 3 (kept_lines text))) h.0.gates) _ _ c s.2 in
     let from : ℕ = h.0.wires - h.0.outputs in
     let o = then_yes (outputs_from (capacity OUTPUT_WORDS outputs) from (drop from s.0.wires) []) _ c g.1 in
-    let k = rows-sound (capacity NODE_WORDS nodes) (drop 3 (kept_lines text)) (start h.0) s.0 (start-sound h.0) s.1 in
+    let k = each_keeps StateSound (row_step (capacity NODE_WORDS nodes)) (row-sound (capacity NODE_WORDS nodes)) (drop 3 (kept_lines text)) (start h.0) s.0 (start-sound h.0) s.1 in
     let b = outputs_below (length s.0.nodes) (capacity OUTPUT_WORDS outputs) from (drop from s.0.wires) (λ i. omega (arith, get_or-drop from s.0.wires i 0, k.wired (from + i))) [] o.0 o.1 (none_yet (length s.0.nodes)) in
     subst KeepsRules (yes_same o.2) (record { checked = circuit_checked s.0.nodes (out_wires o.0) k.sits b; padded = each_padded 0 s.0.nodes k.sits })

@@ -18,11 +18,14 @@ use Rattle.text.specs.declared.TheConstants.{MOST_TEXT}
 use Rattle.text.specs.Bytes.{is_ascii}
 use Rattle.text.specs.Words.{split_whitespace}
 use Rattle.text.specs.Lines.{kept_lines}
+use Rattle.reading.specs.Reading.{add_node, each}
 use Rattle.bristol_rows.specs.declared.answers.Head.{Head}
 use Rattle.bristol_rows.specs.Header.{header}
 use Rattle.bristol_rows.specs.declared.slots.TheConstants.{UNDRIVEN}
 use Rattle.bristol_rows.specs.Slots.{wire_number, node_number, slot_of, slot_of_driver, slot_of_node, driver_of_slot}
-use Rattle.bristol_rows.specs.Row.{Gate, alias, cell, row}
+use Rattle.bristol_rows.specs.declared.gates.Gate.{Gate}
+use Rattle.bristol_rows.specs.declared.gates.Gate.TheVariants.{Alias, Cell}
+use Rattle.bristol_rows.specs.Row.{row}
 
 -- ---- the rows in turn
 
@@ -31,26 +34,36 @@ pub record State : Type 0 where
   pub nodes : List BoolNode
   pub wires : List ℕ
 
+-- the state of these nodes and slots
+abbrev pub driven : List BoolNode → List ℕ → State
+driven ns ws = record { nodes = ns; wires = ws }
+
 -- a wire of the file gets its driver, a wire of the circuit, once
-unfoldable pub drive : WireNumber → BoolWire → List BoolNode → List ℕ → Try State
-drive out w ns ws =
-    need (eqb (slot_of ws out) UNDRIVEN) DrivenTwice
-    (Ok (record { nodes = ns; wires = set ws out.0 (slot_of_driver w) }))
+unfoldable pub drive : WireNumber → BoolWire → List ℕ → Try (List ℕ)
+drive out w ws = need (eqb (slot_of ws out) UNDRIVEN) DrivenTwice (Ok (set ws out.0 (slot_of_driver w)))
+
+-- the same, where these are the nodes then
+abbrev pub drive_with : List BoolNode → WireNumber → BoolWire → List ℕ → Try State
+drive_with ns out w ws = and_then (drive out w ws) (λ more. Ok (driven ns more))
 
 -- a cell takes the next place in the circuit before it drives its wire
-unfoldable pub store_cell : ℕ → WireNumber → BoolNode → List BoolNode → List ℕ → Try State
-store_cell room out n ns ws = need (ltb (length ns) room) NoRoom (drive out (Node (node_number (length ns))) (ns ++ (n ∷ [])) ws)
+unfoldable pub store_cell : WireNumber → BoolNode → ℕ → State → Try State
+store_cell out n room s =
+    and_then (add_node room n s.nodes) (λ ns. drive_with ns out (Node (node_number (length s.nodes))) s.wires)
 
-unfoldable pub store : ℕ → Gate → State → Try State
-store room (alias out w) s = drive out w s.nodes s.wires
-store room (cell out n) s = store_cell room out n s.nodes s.wires
+unfoldable pub store_gate : ℕ → Gate → State → Try State
+store_gate room (Alias out w) s = drive_with s.nodes out w s.wires
+store_gate room (Cell out n) s = store_cell out n room s
+
+-- the gates of a row in turn
+abbrev pub store : ℕ → List Gate → State → Try State
+store room gs s = each (store_gate room) gs s
 
 unfoldable pub row_step : ℕ → List ℕ → State → Try State
-row_step room line s = and_then (row s.wires (split_whitespace line)) (λ g. store room g s)
+row_step room line s = and_then (row s.wires (split_whitespace line)) (λ gs. store room gs s)
 
-unfoldable pub rows : ℕ → List (List ℕ) → State → Try State
-rows room [] s = Ok s
-rows room (l ∷ ls) s = and_then (row_step room l s) (rows room ls)
+abbrev pub rows : ℕ → List (List ℕ) → State → Try State
+rows room ls s = each (row_step room) ls s
 
 -- ---- the outputs
 
@@ -75,6 +88,10 @@ wire_input k = input_node (Number (wire_number k))
 abbrev pub input_slot : ℕ → ℕ
 input_slot k = slot_of_node (node_number k)
 
+-- so many inputs are the first nodes and drive the first of these wires
+abbrev pub with_inputs : ℕ → List ℕ → State
+with_inputs n wires = record { nodes = up_from wire_input 0 n; wires = up_from input_slot 0 n ++ drop n wires }
+
 -- before the rows: the inputs are the first nodes and drive the first wires of the file
 unfoldable pub start : Head → State
 start h = record {
@@ -95,11 +112,19 @@ circuit nodeRoom outputRoom wireRoom ls =
     and_then (header ls) (λ h. need (leb h.wires wireRoom) NoRoom (need (leb h.inputs nodeRoom) NoRoom
     (body nodeRoom outputRoom h (drop 3 ls))))
 
+-- the same in areas of so many words, for nodes, outputs and wires
+abbrev pub body_in : Head → List (List ℕ) → ℕ → ℕ → ℕ → Try Circuit
+body_in h ls nodes outputs wires = body (capacity NODE_WORDS nodes) (capacity OUTPUT_WORDS outputs) h ls
+
+abbrev pub circuit_in : List (List ℕ) → ℕ → ℕ → ℕ → Try Circuit
+circuit_in ls nodes outputs wires =
+    circuit (capacity NODE_WORDS nodes) (capacity OUTPUT_WORDS outputs) (capacity 1 wires) ls
+
 -- the text's own faults come first
 unfoldable pub bristol_circuit : List ℕ → ℕ → ℕ → ℕ → Try Circuit
 bristol_circuit text nodes outputs wires =
     need (leb (length text) MOST_TEXT) TextTooLong (need (is_ascii text) NotAscii
-    (circuit (capacity NODE_WORDS nodes) (capacity OUTPUT_WORDS outputs) (capacity 1 wires) (kept_lines text)))
+    (circuit_in (kept_lines text) nodes outputs wires))
 
 -- what the call answers and leaves
 pub record Left : Type 0 where

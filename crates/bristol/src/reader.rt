@@ -1,14 +1,13 @@
 // The reader.
-ghost use Rattle.std.specs.Prelude.{◌≡◌, [], ◌++◌, ◌*◌, ◌≤◌, ◌<◌, length, drop};
-ghost use Rattle.circuit.specs.declared.records.TheConstants.{NODE_WORDS, OUTPUT_WORDS};
+ghost use Rattle.std.specs.Prelude.{◌≡◌, ◌*◌, ◌≤◌, length};
+ghost use Rattle.circuit.specs.declared.records.TheConstants.{NODE_WORDS};
 ghost use Rattle.laws.specs.declared.TheConstants.{MOST_RECORDS};
-ghost use Rattle.laws.specs.Areas.{capacity, up_from};
 ghost use Rattle.text.specs.Lines.{kept_lines};
 ghost use Rattle.text.specs.Iterators.{kept_left};
-ghost use Rattle.bristol.specs.Bristol.{wire_input, input_slot, rows, body, circuit, leave, bristol};
-ghost use Rattle.bristol.specs.Promises.{Zeros, HoldsNodes, Ready, RowsAre, ReadIs, Leaves};
+ghost use Rattle.reading.specs.Holding.{NodesHold, Ends};
+ghost use Rattle.bristol.specs.Bristol.{with_inputs, body_in, circuit_in, bristol};
+ghost use Rattle.bristol.specs.Promises.{Zeros, state_of, Ready, LeavesAreas, leaving};
 
-use crate::answers::Rows;
 use crate::outputs::put_wires;
 use crate::rows::read_rows;
 use bristol_rows::answers::Head;
@@ -27,10 +26,9 @@ use text::lines::KeptLines;
 #[tactic(auto, using(circuit::proofs::Words::input_fits))]
 pub fn put_inputs(nodes: &mut [usize], wires: &mut [usize], count: usize) -> NodeNumber
     requires rooms { (count * NODE_WORDS ≤ length nodes.old) × (count ≤ length wires.old) × (count ≤ MOST_RECORDS) }
-    requires nodes_empty { HoldsNodes nodes.old [] }
-    ensures nodes_held { HoldsNodes nodes.new (up_from wire_input 0 count) }
-    ensures wires_driven { wires.new ≡ up_from input_slot 0 count ++ drop count wires.old }
-    ensures next { result.0 ≡ count }
+    requires areas { NodesHold nodes.old 0 }
+    ensures areas { NodesHold nodes.new result.0 }
+    ensures step { state_of nodes.new wires.new result ≡ with_inputs count wires.old }
 {
     let mut wire = WireNumber(0);
     let mut next = NodeNumber(0);
@@ -43,24 +41,9 @@ pub fn put_inputs(nodes: &mut [usize], wires: &mut [usize], count: usize) -> Nod
     next
 }
 
-/// The inputs, and the rows after them.
-#[tactic(auto, using(laws::proofs::Areas::length_up, crate::proofs::ReadLaws::rows_told), unfolding(laws::specs::Areas::capacity))]
-pub fn read_gates(
-    lines: KeptLines,
-    nodes: &mut [usize],
-    wires: &mut [usize],
-    inputs: usize,
-) -> Result<Rows, Refusal>
-    requires { (inputs ≤ length wires.old) × (inputs ≤ capacity NODE_WORDS (length nodes.old)) × HoldsNodes nodes.old [] }
-    ensures { RowsAre (length (kept_left lines.entry)) nodes.new wires.new (rows (capacity NODE_WORDS (length nodes.old)) (kept_left lines.entry) (record { nodes = up_from wire_input 0 inputs; wires = up_from input_slot 0 inputs ++ drop inputs wires.old })) result }
-{
-    let next = put_inputs(nodes, wires, inputs);
-    read_rows(lines, nodes, wires, next)
-}
-
 /// The circuit of a header that fits the areas; `wires` has a place for each wire of the file. `HeaderMismatch` if there are not
 /// as many rows as the header says.
-#[tactic(auto, using(crate::proofs::ReadLaws::start_is, crate::proofs::ReadLaws::rows_told, crate::proofs::ReadLaws::body_built), unfolding(crate::specs::Bristol::body))]
+#[tactic(auto, using(crate::proofs::ReadLaws::start_is), unfolding(crate::specs::Bristol::body, laws::specs::Areas::capacity))]
 pub fn read_body(
     lines: KeptLines,
     head: Head,
@@ -69,9 +52,11 @@ pub fn read_body(
     wires: &mut [usize],
 ) -> Result<Sizes, Refusal>
     requires { Ready head nodes.old outputs.old wires.old }
-    ensures { ReadIs nodes.new outputs.new (body (capacity NODE_WORDS (length nodes.old)) (capacity OUTPUT_WORDS (length outputs.old)) head (kept_left lines.entry)) result }
+    ensures { Ends (body_in head (kept_left lines.entry) (length nodes.old) (length outputs.old) 0)
+        result nodes.new outputs.new }
 {
-    let read = read_gates(lines, nodes, wires, head.inputs)?;
+    let first = put_inputs(nodes, wires, head.inputs);
+    let read = read_rows(lines, nodes, wires, first)?;
     if read.rows != head.gates {
         return Err(Refusal::HeaderMismatch);
     }
@@ -83,6 +68,7 @@ pub fn read_body(
 }
 
 /// The same, with zeros in the wires after it, and in the other areas after a refusal.
+#[tactic(auto, using(crate::proofs::ReadLaws::refused_leaves))]
 pub fn read_clean(
     lines: KeptLines,
     head: Head,
@@ -91,7 +77,8 @@ pub fn read_clean(
     wires: &mut [usize],
 ) -> Result<Sizes, Refusal>
     requires { Ready head nodes.old outputs.old wires.old }
-    ensures { Leaves (leave (length nodes.old) (length outputs.old) (length wires.old) (body (capacity NODE_WORDS (length nodes.old)) (capacity OUTPUT_WORDS (length outputs.old)) head (kept_left lines.entry))) result nodes.new outputs.new wires.new }
+    ensures { LeavesAreas (leaving (body_in head (kept_left lines.entry))) nodes.old outputs.old wires.old
+        result nodes.new outputs.new wires.new }
 {
     let read = read_body(lines, head, nodes, outputs, wires);
     wires.fill(0);
@@ -103,7 +90,7 @@ pub fn read_clean(
 }
 
 /// A header and what follows it, into areas that are zero. `NoRoom` if the wire area or the node area is too short for the header.
-#[tactic(auto, using(crate::proofs::ReadLaws::zeros_hold), unfolding(crate::specs::Bristol::circuit, laws::specs::Areas::capacity))]
+#[tactic(auto, unfolding(crate::specs::Bristol::circuit, laws::specs::Areas::capacity))]
 pub fn read_circuit(
     text: &[u8],
     nodes: &mut [usize],
@@ -111,7 +98,8 @@ pub fn read_circuit(
     wires: &mut [usize],
 ) -> Result<Sizes, Refusal>
     requires { Zeros nodes.old × Zeros outputs.old × Zeros wires.old }
-    ensures { Leaves (leave (length nodes.old) (length outputs.old) (length wires.old) (circuit (capacity NODE_WORDS (length nodes.old)) (capacity OUTPUT_WORDS (length outputs.old)) (capacity 1 (length wires.old)) (kept_lines text.now))) result nodes.new outputs.new wires.new }
+    ensures { LeavesAreas (leaving (circuit_in (kept_lines text.now))) nodes.old outputs.old wires.old
+        result nodes.new outputs.new wires.new }
 {
     let mut lines = kept_lines(text);
     let head = read_header(&mut lines)?;
@@ -132,7 +120,8 @@ pub fn read_text(
     wires: &mut [usize],
 ) -> Result<Sizes, Refusal>
     requires { Zeros nodes.old × Zeros outputs.old × Zeros wires.old }
-    ensures { Leaves (bristol text.now (length nodes.old) (length outputs.old) (length wires.old)) result nodes.new outputs.new wires.new }
+    ensures { LeavesAreas (bristol text.now) nodes.old outputs.old wires.old
+        result nodes.new outputs.new wires.new }
 {
     if MOST_TEXT < text.len() {
         return Err(Refusal::TextTooLong);
@@ -151,7 +140,8 @@ pub fn parse_bristol(
     outputs: &mut [usize],
     wires: &mut [usize],
 ) -> Result<Sizes, Refusal>
-    ensures { Leaves (bristol text.now (length nodes.old) (length outputs.old) (length wires.old)) result nodes.new outputs.new wires.new }
+    ensures { LeavesAreas (bristol text.now) nodes.old outputs.old wires.old
+        result nodes.new outputs.new wires.new }
 {
     clear_all(nodes, outputs, wires);
     read_text(text, nodes, outputs, wires)

@@ -1,13 +1,12 @@
 // The rows in turn.
-ghost use Rattle.std.specs.Prelude.{length};
-ghost use Rattle.circuit.specs.declared.records.TheConstants.{NODE_WORDS};
-ghost use Rattle.laws.specs.Areas.{capacity};
+ghost use Rattle.std.specs.Prelude.{◌≡◌, length, IfOk};
+ghost use Rattle.reading.specs.Holding.{NodesHold};
 ghost use Rattle.text.specs.Iterators.{kept_left};
 ghost use Rattle.bristol.specs.Bristol.{row_step, rows};
-ghost use Rattle.bristol.specs.Promises.{OfHeld, StepIs, RowsAre};
+ghost use Rattle.bristol.specs.Promises.{NodesHoldNext, StateStep, next_of};
 
 use crate::answers::Rows;
-use crate::store::store_row;
+use crate::store::store_gates;
 use bristol_rows::row::read_row;
 use circuit::records::NodeNumber;
 use circuit::refusals::Refusal;
@@ -21,21 +20,27 @@ pub fn row_step(
     wires: &mut [usize],
     next: NodeNumber,
 ) -> Result<NodeNumber, Refusal>
-    ensures { OfHeld nodes.old next.0 (λ ns. StepIs nodes.new wires.new (row_step (capacity NODE_WORDS (length nodes.old)) line.now (record { nodes = ns; wires = wires.old })) result) }
+    requires areas { NodesHold nodes.old next.0 }
+    ensures areas { NodesHoldNext nodes.new result }
+    ensures step { StateStep (λ room. row_step room line.now) nodes.old wires.old next nodes.new wires.new result }
 {
-    let row = read_row(line, wires);
-    store_row(nodes, wires, next, row)
+    let gates = read_row(line, wires)?;
+    store_gates(nodes, wires, next, gates)
 }
 
 /// The rows that are left, read and stored in turn, from the first node that they may make.
-#[tactic(auto, using(crate::proofs::StoreLaws::kept_few, crate::proofs::StoreLaws::going_start, crate::proofs::StoreLaws::going_end))]
+#[tactic(auto, using(crate::proofs::StoreLaws::kept_few), unfolding(reading::specs::Reading::each))]
 pub fn read_rows(
     lines: KeptLines,
     nodes: &mut [usize],
     wires: &mut [usize],
     first: NodeNumber,
 ) -> Result<Rows, Refusal>
-    ensures { OfHeld nodes.old first.0 (λ ns. RowsAre (length (kept_left lines.entry)) nodes.new wires.new (rows (capacity NODE_WORDS (length nodes.old)) (kept_left lines.entry) (record { nodes = ns; wires = wires.old })) result) }
+    requires areas { NodesHold nodes.old first.0 }
+    ensures areas { NodesHoldNext nodes.new (next_of result) }
+    ensures step { StateStep (λ room. rows room (kept_left lines.entry)) nodes.old wires.old first
+        nodes.new wires.new (next_of result) }
+    ensures all { IfOk result (λ r. r.rows ≡ length (kept_left lines.entry)) }
 {
     let mut next = first;
     let mut rows = 0;

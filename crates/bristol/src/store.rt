@@ -1,26 +1,25 @@
-// What a row made, stored.
-ghost use Rattle.std.specs.Prelude.{List, ℕ, ◌<◌, ◌^◌, length, Ok};
-ghost use Rattle.circuit.specs.declared.records.TheConstants.{NODE_WORDS};
-ghost use Rattle.laws.specs.Areas.{capacity};
-ghost use Rattle.circuit.specs.declared.records.BoolNode.{BoolNode};
+// The gates of a row, stored.
+ghost use Rattle.std.specs.Prelude.{◌≡◌, ◌<◌, ◌^◌, length};
 ghost use Rattle.laws.specs.Stretches.{All};
 ghost use Rattle.circuit.specs.Records.{HasWord};
+ghost use Rattle.reading.specs.Holding.{outcome, NodesHold};
 ghost use Rattle.bristol_rows.specs.Slots.{slot_of_driver};
-ghost use Rattle.bristol_rows.specs.Promises.{RowFits, gate_of};
-ghost use Rattle.bristol.specs.Bristol.{drive, store_cell};
-ghost use Rattle.bristol.specs.Promises.{OfHeld, DriveIs, StepIs, store_of};
+ghost use Rattle.bristol_rows.specs.Gates.{gates_left};
+ghost use Rattle.bristol_rows.specs.Promises.{GateFits};
+ghost use Rattle.bristol.specs.Bristol.{drive, store_cell, store_gate, store};
+ghost use Rattle.bristol.specs.Promises.{NodesHoldNext, StateStep};
 
-use bristol_rows::answers::Row;
+use bristol_rows::gates::{Gate, Gates};
 use bristol_rows::slots::{UNDRIVEN, slot_of, slot_of_driver};
-use circuit::areas::{put_node, records_in};
-use circuit::records::{BoolNode, BoolWire, NODE_WORDS, NodeNumber, WireNumber};
+use circuit::records::{BoolNode, BoolWire, NodeNumber, WireNumber};
 use circuit::refusals::Refusal;
+use reading::records::add_node;
 
 /// A wire of the file, driven by a wire of the circuit from now on; `DrivenTwice` if it has a driver.
 #[tactic(auto, unfolding(crate::specs::Bristol::drive))]
 pub fn drive(wires: &mut [usize], out: WireNumber, wire: BoolWire) -> Result<(), Refusal>
     requires { (out.0 < length wires.old) × (slot_of_driver wire < 2 ^ 64) }
-    ensures { (ns : List BoolNode) → DriveIs ns wires.new (drive out wire ns wires.old) result }
+    ensures step { outcome (λ u. wires.new) result ≡ drive out wire wires.old }
 {
     if slot_of(wires, out) != UNDRIVEN {
         return Err(Refusal::DrivenTwice);
@@ -29,23 +28,9 @@ pub fn drive(wires: &mut [usize], out: WireNumber, wire: BoolWire) -> Result<(),
     Ok(())
 }
 
-/// A row that makes no cell: its output wire is driven by what drives its input. The next node stays the same.
-pub fn store_alias(
-    wires: &mut [usize],
-    next: NodeNumber,
-    out: WireNumber,
-    wire: BoolWire,
-) -> Result<NodeNumber, Refusal>
-    requires { (out.0 < length wires.old) × (slot_of_driver wire < 2 ^ 64) }
-    ensures { (a : List ℕ) → OfHeld a next.0 (λ ns. StepIs a wires.new (drive out wire ns wires.old) result) }
-{
-    drive(wires, out, wire)?;
-    Ok(next)
-}
-
 /// A cell, which becomes the next node and drives its output wire: `NoRoom`, then `DrivenTwice`. The answer is the number of the
 /// node after it.
-#[tactic(auto, using(crate::proofs::StoreLaws::hold_node, crate::proofs::StoreLaws::cell_once), unfolding(crate::specs::Bristol::store_cell, laws::specs::Areas::capacity))]
+#[tactic(auto, using(circuit::proofs::Codes::length_nodes), unfolding(crate::specs::Bristol::store_cell))]
 pub fn store_cell(
     nodes: &mut [usize],
     wires: &mut [usize],
@@ -53,31 +38,56 @@ pub fn store_cell(
     out: WireNumber,
     cell: BoolNode,
 ) -> Result<NodeNumber, Refusal>
+    requires areas { NodesHold nodes.old next.0 }
     requires out_in_bounds { out.0 < length wires.old }
     requires wires_fit { All HasWord cell.wires }
-    ensures { OfHeld nodes.old next.0 (λ ns. StepIs nodes.new wires.new (store_cell (capacity NODE_WORDS (length nodes.old)) out cell ns wires.old) result) }
+    ensures areas { NodesHoldNext nodes.new result }
+    ensures step { StateStep (store_cell out cell) nodes.old wires.old next nodes.new wires.new result }
 {
-    if records_in(nodes.len(), NODE_WORDS) <= next.0 {
-        return Err(Refusal::NoRoom);
-    }
+    let count = add_node(cell, next.0, nodes)?;
     drive(wires, out, BoolWire::Node(next))?;
-    put_node(nodes, next.0, cell);
-    Ok(NodeNumber(next.0 + 1))
+    Ok(NodeNumber(count))
 }
 
-/// What a row made, stored: the number of the next node then.
-#[tactic(auto, unfolding(crate::specs::Bristol::store))]
-pub fn store_row(
+/// A gate, stored: the number of the next node then. A row that makes no cell leaves it as it was.
+#[tactic(auto, unfolding(crate::specs::Bristol::store_gate))]
+pub fn store_gate(
     nodes: &mut [usize],
     wires: &mut [usize],
     next: NodeNumber,
-    row: Result<Row, Refusal>,
+    gate: Gate,
 ) -> Result<NodeNumber, Refusal>
-    requires { RowFits (length wires.old) row }
-    ensures { OfHeld nodes.old next.0 (λ ns. StepIs nodes.new wires.new (store_of (capacity NODE_WORDS (length nodes.old)) (gate_of row) (record { nodes = ns; wires = wires.old })) result) }
+    requires areas { NodesHold nodes.old next.0 }
+    requires fits { GateFits (length wires.old) gate }
+    ensures areas { NodesHoldNext nodes.new result }
+    ensures step { StateStep (λ room. store_gate room gate) nodes.old wires.old next nodes.new wires.new result }
 {
-    match row? {
-        Row::Alias { out, wire } => store_alias(wires, next, out, wire),
-        Row::Cell { out, node } => store_cell(nodes, wires, next, out, node),
+    match gate {
+        Gate::Alias { out, wire } => {
+            drive(wires, out, wire)?;
+            Ok(next)
+        }
+        Gate::Cell { out, node } => store_cell(nodes, wires, next, out, node),
     }
+}
+
+/// The gates of a row, stored in turn: the number of the next node then.
+#[tactic(auto, unfolding(reading::specs::Reading::each))]
+pub fn store_gates(
+    nodes: &mut [usize],
+    wires: &mut [usize],
+    first: NodeNumber,
+    gates: Gates,
+) -> Result<NodeNumber, Refusal>
+    requires areas { NodesHold nodes.old first.0 }
+    requires fit { All (GateFits (length wires.old)) (gates_left gates) }
+    ensures areas { NodesHoldNext nodes.new result }
+    ensures step { StateStep (λ room. store room (gates_left gates)) nodes.old wires.old first
+        nodes.new wires.new result }
+{
+    let mut next = first;
+    for gate in gates {
+        next = store_gate(nodes, wires, next, gate)?;
+    }
+    Ok(next)
 }

@@ -7,33 +7,35 @@ use mathlib.Core.Bool.{Bool, true, false, cond}
 use mathlib.Core.List.{List, [], ◌∷◌, map}
 use mathlib.Core.Option.{Option, none, some}
 use native.Mathlib.Omega.{arith}
-use lib.Dec.{eqb, leb, ltb}
+use lib.Dec.{eqb, ltb}
 use lib.ListN.{length, get_or, take, drop, length-drop}
 use lib.Seq.{length-take-le, take-nil}
 use Rattle.std.proofs.lemmas.List.{take_min}
 use Rattle.laws.specs.Stretches.{All}
-use borrow.Author.Tests.{leb-true, leb-false, eq-eqb, ne_eqb, le-leb, lt-leb, eqb-true, eqb-false, ltb-true, ltb-false}
+use borrow.Author.Tests.{eq-eqb, ne_eqb, le-leb, lt-leb, eqb-true, eqb-false, ltb-true, ltb-false}
 use Rattle.circuit.specs.declared.refusals.Refusal.{Refusal}
 use Rattle.circuit.specs.declared.refusals.Refusal.TheVariants.{NoDriver, WrongCount, Malformed, NotNumber, OutputOutside}
 use Rattle.circuit.specs.declared.records.WireNumber.{WireNumber}
 use Rattle.circuit.specs.declared.records.BoolWire.{BoolWire}
 use Rattle.circuit.specs.declared.records.BoolNode.{BoolNode}
 use Rattle.circuit.specs.declared.records.Name.TheVariants.{Number}
-use Rattle.circuit.specs.Records.{no_wire, HasWord, cell_node}
+use Rattle.circuit.specs.Records.{HasWord, cell_node}
 use Rattle.circuit.proofs.Words.{cell_fits}
 use Rattle.circuit.specs.Refusals.{Try, and_then, need}
 use Rattle.text.specs.Numbers.{parse_usize, parse_each, and_then as then}
 use Rattle.bristol_rows.specs.declared.answers.Slots.{Slots}
-use Rattle.bristol_rows.specs.declared.answers.Row.{Row}
+use Rattle.bristol_rows.specs.declared.gates.Gate.{Gate}
+use Rattle.bristol_rows.specs.declared.gates.Gates.{Gates}
+use Rattle.bristol_rows.specs.declared.operation.Operation.{Operation}
+use Rattle.bristol_rows.specs.declared.operation.Operation.TheVariants.{Copy, One, Two, Unlisted}
 use Rattle.bristol_rows.specs.Numbers.{or_refuse, number, each_number}
-use Rattle.bristol_rows.specs.Operation.{same, operation}
+use Rattle.bristol_rows.specs.Operation.{operation}
 use Rattle.bristol_rows.specs.Slots.{wire_number, driver_of_slot}
-use Rattle.bristol_rows.specs.Row.{drivers, Gate, alias, gate, row_output, row_wires, row}
-use Rattle.bristol_rows.specs.Promises.{no_slots, add_inputs, Gathered, drivers_of, CellIs, RowIs, gate_by, output_by, end_by, wires_by, invalid_arity, first_arity, wrong_outputs}
-use Rattle.bristol_rows.proofs.OperationLaws.{operation_no, operation_same}
+use Rattle.bristol_rows.specs.Row.{drivers, gates_on, gates_of, row_output, row_wires, operation_row, row}
+use Rattle.bristol_rows.specs.Promises.{no_slots, add_inputs, Gathered, drivers_of, CellIs, RowIs, gates_by, output_by, end_by, wires_by, invalid_arity, first_arity, wrong_outputs}
 use Rattle.bristol_rows.proofs.InputLaws.{inputs_invalid, inputs-slots, inputs_valid, undriven_slots, drivers-length, Driven, driven_slots}
 
-pub refused : (m : ℕ) (x : Try Gate) (e : Refusal) → x ≡ Err e → RowIs m x (Err e)
+pub refused : (m : ℕ) (x : Try (List Gate)) (e : Refusal) → x ≡ Err e → RowIs m x (Err e)
 refused m x e h = record { is = sym h; fits = tt }
 
 -- ---- the slots gathered from the words are those of the definition
@@ -57,11 +59,6 @@ parsed_length (w ∷ ws) ns h = go (parse_usize w) (parse_each ws) refl h (parse
         let e : ns ≡ n ∷ ms = cc in
         ap length e ∙ ap suc (ih ms q)
 
--- another name of what drives the one input
-pub alias_gate : (op : List ℕ) (n : ℕ) (slots : Slots) (out : WireNumber) (w : BoolWire) → w ≡ driver_of_slot slots.first → operation op n ≡ Ok same → Ok (alias out w) ≡ gate_by op n slots out
-unfolding gate_by
-alias_gate op n slots out w e h = rw (h, e, operation_same op n h)
-
 -- a cell on what drives the first inputs
 pub cell_made : (out : WireNumber) (t n : ℕ) (slots : Slots) (a b : BoolWire) → a ≡ driver_of_slot slots.first → b ≡ driver_of_slot slots.second → HasWord a → HasWord b
     → (r : BoolNode) → r ≡ cell_node (Number out) t (take (min n 2) (a ∷ b ∷ [])) → CellIs (cell_node (Number out) t (drivers_of n slots)) r
@@ -76,20 +73,21 @@ cell_made out t n slots a b p q f g r e =
     all_take zero (x ∷ l) h = tt
     all_take (suc n) (x ∷ l) h = (h.0, all_take n l h.1)
 
-op_same : (wires : List ℕ) (op : List ℕ) (ds : List BoolWire) (n : ℕ) (slots : Slots) (out : WireNumber) → Driven wires slots ds → n ≡ length ds
-    → and_then (operation op n) (λ o. Ok (gate out (drivers_of n slots) o)) ≡ and_then (operation op n) (λ o. Ok (gate out ds o))
-op_same wires op ds n slots out d e = go (leb n 2) refl
+-- the slots hold the drivers of as many inputs as an operation may have
+op_same : (wires : List ℕ) (op : Operation) (ds : List BoolWire) (n : ℕ) (slots : Slots) (out : WireNumber) → Driven wires slots ds → n ≡ length ds
+    → gates_by op n slots out ≡ gates_on out ds op
+op_same wires op ds n slots out d e = rw e (go op ds d)
   where
-    two : (l : List BoolWire) → length l ≤ 2 → take (length l) (get_or l 0 no_wire ∷ get_or l 1 no_wire ∷ []) ≡ l
-    two [] h = refl
-    two (x ∷ []) h = refl
-    two (x ∷ y ∷ []) h = refl
-    two (x ∷ y ∷ z ∷ zs) h = absurd (omega arith)
-
-    go : (t : Bool) → leb n 2 ≡ t → and_then (operation op n) (λ o. Ok (gate out (drivers_of n slots) o)) ≡ and_then (operation op n) (λ o. Ok (gate out ds o))
-    go true q = rw (d.first_is, d.second_is, e, two ds (omega (arith, e, leb-true n 2 q)))
-    go false q =
-        operation_no op n (λ o. gate out (drivers_of n slots) o) (λ o. gate out ds o) (λ z. omega (arith, leb-false n 2 q)) (λ z. omega (arith, leb-false n 2 q))
+    go : (op : Operation) (ds : List BoolWire) → Driven wires slots ds → gates_by op (length ds) slots out ≡ gates_on out ds op
+    go Copy ds d = rw d.first_is
+    go (One t) [] d = refl
+    go (One t) (x ∷ []) d = rw d.first_is
+    go (One t) (x ∷ y ∷ zs) d = rw (ne_eqb (length (x ∷ y ∷ zs)) 1 (λ z. omega arith))
+    go (Two t) [] d = refl
+    go (Two t) (x ∷ []) d = refl
+    go (Two t) (x ∷ y ∷ []) d = rw (d.first_is, d.second_is)
+    go (Two t) (x ∷ y ∷ z ∷ zs) d = rw (ne_eqb (length (x ∷ y ∷ z ∷ zs)) 2 (λ z. omega arith))
+    go Unlisted ds d = refl
 
 same_test : (a b c d : ℕ) → (a ≡ b → c ≡ d) → (c ≡ d → a ≡ b) → eqb a b ≡ eqb c d
 same_test a b c d f g = go (eqb a b) refl
@@ -99,13 +97,12 @@ same_test a b c d f g = go (eqb a b) refl
     go false e = sym (ne_eqb c d (λ z. eqb-false a b e (g z)))
 
 module _ (wires : List ℕ) (n : ℕ) (ws : List (List ℕ)) (slots : Slots) (e : slots ≡ add_inputs wires 0 no_slots (take n ws)) (h : n ≤ length ws) where
-  output_is : (us : List (List ℕ)) → output_by (get_or us 0 []) (get_or us 1 []) n slots (length wires) ≡ and_then (each_number (take n ws)) (λ ins. row_output wires ins us)
-  unfolding output_by row_output gate_by each_number
-  output_is us = go (parse_each (take n ws)) refl
+  output_is : (w : List ℕ) (op : Operation) → output_by w op n slots (length wires) ≡ and_then (each_number (take n ws)) (λ ins. row_output wires ins op w)
+  unfolding output_by row_output gates_of each_number
+  output_is w op = go (parse_each (take n ws)) refl
     where
       drive : (ins : List ℕ) → parse_each (take n ws) ≡ some ins → (out : ℕ) (x : Try (List BoolWire)) → drivers wires (map wire_number ins) ≡ x
-          → cond slots.undriven (Err NoDriver) (and_then (operation (get_or us 1 []) n) (λ o. Ok (gate (wire_number out) (drivers_of n slots) o)))
-          ≡ and_then x (λ ds. and_then (operation (get_or us 1 []) (length ins)) (λ o. Ok (gate (wire_number out) ds o)))
+          → cond slots.undriven (Err NoDriver) (gates_by op n slots (wire_number out)) ≡ and_then x (λ ds. gates_on (wire_number out) ds op)
       drive ins q out (Err f) d =
           let u = undriven_slots wires ins 0 no_slots f d in
           let v : slots.undriven ≡ true = ap (λ (z : Slots). z.undriven) (inputs-slots wires slots (take n ws) e ins q) ∙ u.0 in
@@ -114,30 +111,31 @@ module _ (wires : List ℕ) (n : ℕ) (ws : List (List ℕ)) (slots : Slots) (e 
           let g : Driven wires slots ds = subst (λ (z : Slots). Driven wires z ds) (sym (inputs-slots wires slots (take n ws) e ins q)) (driven_slots wires ins ds d) in
           let l : length ins ≡ n = parsed_length (take n ws) ins q ∙ length-take-le n ws h in
           let m : n ≡ length ds = sym l ∙ sym (drivers-length wires ins ds d) in
-          rw (g.all, l) (op_same wires (get_or us 1 []) ds n slots (wire_number out) g m)
+          ap (λ (t : Bool). cond t (Err NoDriver) (gates_by op n slots (wire_number out))) g.all ∙ op_same wires op ds n slots (wire_number out) g m
 
       go : (x : Option (List ℕ)) → parse_each (take n ws) ≡ x
-          → cond slots.invalid (Err NotNumber) (and_then (number (get_or us 0 [])) (λ out. need (ltb out (length wires)) OutputOutside
-          (cond slots.undriven (Err NoDriver) (and_then (operation (get_or us 1 []) n) (λ o. Ok (gate (wire_number out) (drivers_of n slots) o))))))
-          ≡ and_then (or_refuse NotNumber x) (λ ins. and_then (number (get_or us 0 [])) (λ out. need (ltb out (length wires)) OutputOutside
-          (and_then (drivers wires (map wire_number ins)) (λ ds. and_then (operation (get_or us 1 []) (length ins)) (λ o. Ok (gate (wire_number out) ds o))))))
+          → cond slots.invalid (Err NotNumber) (and_then (number w) (λ out. need (ltb out (length wires)) OutputOutside
+          (cond slots.undriven (Err NoDriver) (gates_by op n slots (wire_number out)))))
+          ≡ and_then (or_refuse NotNumber x) (λ ins. and_then (number w) (λ out. need (ltb out (length wires)) OutputOutside
+          (and_then (drivers wires (map wire_number ins)) (λ ds. gates_on (wire_number out) ds op))))
       go none q = rw (inputs_invalid wires slots (take n ws) e q)
       go (some ins) q =
-          rw (inputs_valid wires slots (take n ws) e ins q)
-          (then_same (number (get_or us 0 [])) _ _ (λ out. ap (need (ltb out (length wires)) OutputOutside) (drive ins q out (drivers wires (map wire_number ins)) refl)))
+          ap (λ (t : Bool). cond t (Err NotNumber) (and_then (number w) (λ out. need (ltb out (length wires)) OutputOutside
+          (cond slots.undriven (Err NoDriver) (gates_by op n slots (wire_number out)))))) (inputs_valid wires slots (take n ws) e ins q)
+          ∙ then_same (number w) _ _ (λ out. ap (need (ltb out (length wires)) OutputOutside) (drive ins q out (drivers wires (map wire_number ins)) refl))
 
   end_is : end_by (drop n ws) n slots (length wires) ≡ wires_by wires n ws
   unfolding end_by wires_by row_wires
   end_is =
-      ap₂ (λ (t : Bool) (x : Try Gate). need t Malformed x)
+      ap₂ (λ (t : Bool) (x : Try (List Gate)). need t Malformed x)
       (same_test (length (drop n ws)) 2 (length ws) (n + 2) (λ z. omega (arith, length-drop n ws)) (λ z. omega (arith, length-drop n ws)))
-      (output_is (drop n ws))
+      (output_is (get_or (drop n ws) 0 []) (operation (get_or (drop n ws) 1 [])))
 
 pub wires_missing : (wires : List ℕ) (n : ℕ) (ws : List (List ℕ)) (k : ℕ) → length ws < n → RowIs k (wires_by wires n ws) (Err Malformed)
 unfolding wires_by
 wires_missing wires n ws k h = record { is = rw (ne_eqb (length ws) (n + 2) (λ z. omega arith)); fits = tt }
 
-pub wires_end : (wires : List ℕ) (n : ℕ) (ws us : List (List ℕ)) (slots : Slots) → Gathered n wires ws us slots → (r : Try Row)
+pub wires_end : (wires : List ℕ) (n : ℕ) (ws us : List (List ℕ)) (slots : Slots) → Gathered n wires ws us slots → (r : Try Gates)
     → RowIs (length wires) (end_by us n slots (length wires)) r → RowIs (length wires) (wires_by wires n ws) r
 wires_end wires n ws us slots g r i = record {
   is = i.is ∙ ap (λ (l : List (List ℕ)). end_by l n slots (length wires)) g.left ∙ end_is wires n ws slots g.slots_are g.enough;
@@ -186,7 +184,7 @@ module _ (wires : List ℕ) (m : ℕ) (a b : List ℕ) (us : List (List ℕ)) (i
         let l : suc (suc (length us)) < 4 = omega arith in
         rw (lt-leb 4 (suc (suc (length us))) l)
 
-    opened : 2 ≤ length us → row wires (a ∷ b ∷ us) ≡ need (eqb (suc (suc (length us))) (2 + i + o + 1)) Malformed (need (eqb o 1) WrongCount (row_wires wires i us))
+    opened : 2 ≤ length us → row wires (a ∷ b ∷ us) ≡ need (eqb (suc (suc (length us))) (2 + i + o + 1)) Malformed (operation_row wires i o (operation (get_or (drop i us) o [])) us)
     unfolding row number
     opened h =
         let l : 4 ≤ suc (suc (length us)) = omega arith in
@@ -197,12 +195,13 @@ module _ (wires : List ℕ) (m : ℕ) (a b : List ℕ) (us : List (List ℕ)) (i
         let n : suc (suc (length us)) ≡ 2 + i + o + 1 → ⊥ = λ z. d (omega arith) in
         opened h ∙ rw (ne_eqb (suc (suc (length us))) (2 + i + o + 1) n)
 
-    right : 2 ≤ length us → length us ≡ i + o + 1 → row wires (a ∷ b ∷ us) ≡ need (eqb o 1) WrongCount (row_wires wires i us)
+    right : 2 ≤ length us → length us ≡ i + o + 1 → row wires (a ∷ b ∷ us) ≡ operation_row wires i o (operation (get_or (drop i us) o [])) us
     right h d =
         let n : suc (suc (length us)) ≡ 2 + i + o + 1 = omega arith in
         opened h ∙ rw (eq-eqb (suc (suc (length us))) (2 + i + o + 1) n)
 
     pub row-outputs : (o ≡ 1 → ⊥) → RowIs m (row wires (a ∷ b ∷ us)) (Err (wrong_outputs i o us))
+    unfolding operation_row
     row-outputs d = go (ltb (length us) 2) refl (eqb (length us) (i + o + 1)) refl
       where
         go : (t : Bool) → ltb (length us) 2 ≡ t → (u : Bool) → eqb (length us) (i + o + 1) ≡ u
@@ -213,18 +212,18 @@ module _ (wires : List ℕ) (m : ℕ) (a b : List ℕ) (us : List (List ℕ)) (i
         go false e false f = refused m _ Malformed (wrong (omega (arith, ltb-false (length us) 2 e)) (eqb-false (length us) (i + o + 1) f))
 
     one_output : o ≡ 1 → wires_by wires i us ≡ row wires (a ∷ b ∷ us)
-    unfolding wires_by
+    unfolding wires_by operation_row
     one_output d = go (ltb (length us) 2) refl (eqb (length us) (i + 2)) refl
       where
-        go : (t : Bool) → ltb (length us) 2 ≡ t → (u : Bool) → eqb (length us) (i + 2) ≡ u → need u Malformed (row_wires wires i us) ≡ row wires (a ∷ b ∷ us)
+        go : (t : Bool) → ltb (length us) 2 ≡ t → (u : Bool) → eqb (length us) (i + 2) ≡ u → need u Malformed (row_wires wires i (operation (get_or (drop i us) 1 [])) us) ≡ row wires (a ∷ b ∷ us)
         go true e true f = absurd (omega (arith, ltb-true (length us) 2 e, eqb-true (length us) (i + 2) f))
         go true e false f = sym (few (omega (arith, ltb-true (length us) 2 e)))
         go false e true f =
             let z : length us ≡ i + o + 1 = omega (arith, eqb-true (length us) (i + 2) f) in
-            sym (right (omega (arith, ltb-false (length us) 2 e)) z ∙ rw (eq-eqb o 1 d))
+            sym (right (omega (arith, ltb-false (length us) 2 e)) z ∙ rw d)
         go false e false f = sym (wrong (omega (arith, ltb-false (length us) 2 e)) (λ z. eqb-false (length us) (i + 2) f (omega arith)))
 
-    pub row-wires : o ≡ 1 → (r : Try Row) → RowIs m (wires_by wires i us) r → RowIs m (row wires (a ∷ b ∷ us)) r
+    pub row-wires : o ≡ 1 → (r : Try Gates) → RowIs m (wires_by wires i us) r → RowIs m (row wires (a ∷ b ∷ us)) r
     row-wires d r x = record { is = x.is ∙ one_output d; fits = x.fits }
 
 -- ---- the arities as the code reads them
@@ -280,5 +279,5 @@ module _ (wires : List ℕ) (m : ℕ) (ws us : List (List ℕ)) (i : ℕ) (a : A
     pub outputs_refused : (o ≡ 1 → ⊥) → RowIs m (row wires ws) (Err (wrong_outputs i o vs))
     outputs_refused d = rw both (row-outputs wires m a.word b.word vs i a.reads o b.reads d)
 
-    pub wires_read : o ≡ 1 → (r : Try Row) → RowIs m (wires_by wires i vs) r → RowIs m (row wires ws) r
+    pub wires_read : o ≡ 1 → (r : Try Gates) → RowIs m (wires_by wires i vs) r → RowIs m (row wires ws) r
     wires_read d r x = rw both (row-wires wires m a.word b.word vs i a.reads o b.reads d r x)

@@ -1,9 +1,9 @@
 -- What the functions of this crate promise: their answers against the definitions.
 -- Assumes nothing.
-use Rattle.std.specs.Prelude.{ℕ, suc, ◌+◌, ◌≤◌, ◌<◌, ◌^◌, ◌≡◌, true, false, cond, List, [], ◌∷◌, eqb, leb, ltb, length, get_or, take, drop, Err, Ok, Some, None, Option as Answer}
+use Rattle.std.specs.Prelude.{ℕ, suc, ◌+◌, ◌≤◌, ◌<◌, ◌^◌, ◌≡◌, true, false, cond, if◌then◌else◌, List, [], ◌∷◌, eqb, leb, ltb, length, get_or, take, drop, Err, Ok, Some, None, Option as Answer, IfOk}
 use Rattle.std.proofs.Math.Option.{Option, none, some}
 use Rattle.circuit.specs.declared.refusals.Refusal.{Refusal}
-use Rattle.circuit.specs.declared.refusals.Refusal.TheVariants.{NoDriver, WrongCount, Malformed, NotNumber, OutputOutside}
+use Rattle.circuit.specs.declared.refusals.Refusal.TheVariants.{NoDriver, WrongCount, Unknown, Malformed, NotNumber, OutputOutside}
 use Rattle.circuit.specs.declared.records.WireNumber.{WireNumber}
 use Rattle.circuit.specs.declared.records.BoolWire.{BoolWire}
 use Rattle.circuit.specs.declared.records.BoolNode.{BoolNode}
@@ -15,14 +15,18 @@ use Rattle.bristol_rows.specs.declared.answers.Widths.{Widths}
 use Rattle.bristol_rows.specs.declared.answers.Counts.{Counts}
 use Rattle.bristol_rows.specs.declared.answers.Head.{Head}
 use Rattle.bristol_rows.specs.declared.answers.Slots.{Slots}
-use Rattle.bristol_rows.specs.declared.answers.Row.{Row}
-use Rattle.bristol_rows.specs.declared.answers.Row.TheVariants.{Alias as RowAlias, Cell as RowCell}
+use Rattle.bristol_rows.specs.declared.gates.Gate.{Gate}
+use Rattle.bristol_rows.specs.declared.gates.Gate.TheVariants.{Alias, Cell}
+use Rattle.bristol_rows.specs.declared.gates.Gates.{Gates}
+use Rattle.bristol_rows.specs.declared.operation.Operation.{Operation}
+use Rattle.bristol_rows.specs.declared.operation.Operation.TheVariants.{Copy, One, Two, Unlisted}
 use Rattle.bristol_rows.specs.Numbers.{or_refuse, number}
 use Rattle.bristol_rows.specs.Header.{grouped_wire_count, header}
-use Rattle.bristol_rows.specs.Operation.{Op, same, table, operation}
+use Rattle.bristol_rows.specs.Operation.{operation}
 use Rattle.bristol_rows.specs.declared.slots.TheConstants.{UNDRIVEN}
 use Rattle.bristol_rows.specs.Slots.{wire_number, slot_of, slot_of_driver, driver_of_slot}
-use Rattle.bristol_rows.specs.Row.{Gate, alias, cell, gate, row_wires}
+use Rattle.bristol_rows.specs.Gates.{gates_left}
+use Rattle.bristol_rows.specs.Row.{alias_gate, cell_gate, row_wires}
 
 -- ---- the next word as a number
 
@@ -82,13 +86,6 @@ abbrev pub HeaderIs : List (List ℕ) → List (List ℕ) → Try Head → Type 
 HeaderIs ls rows (Err e) = header ls ≡ Err e
 HeaderIs ls rows (Ok h) = HeaderAt ls rows h
 
--- ---- the operation
-
-abbrev pub made_of : Try (Answer ℕ) → Try Op
-made_of (Err e) = Err e
-made_of (Ok None) = Ok same
-made_of (Ok (Some t)) = Ok (table t)
-
 -- ---- the input wires
 
 abbrev pub no_slots : Slots
@@ -131,35 +128,41 @@ pub record CellIs (n r : BoolNode) : Type 0 where
   pub is : r ≡ n
   pub wires_fit : All HasWord r.wires
 
-abbrev pub gate_of : Try Row → Try Gate
-gate_of (Err e) = Err e
-gate_of (Ok (RowAlias out w)) = Ok (alias out w)
-gate_of (Ok (RowCell out n)) = Ok (cell out n)
+-- the gates of an answer, or its refusal
+abbrev pub gates_read : Try Gates → Try (List Gate)
+gates_read (Err e) = Err e
+gates_read (Ok g) = Ok (gates_left g)
 
--- of m wires; what is stored fits a word
-abbrev pub RowFits : ℕ → Try Row → Type 0
-RowFits m (Err e) = Unit
-RowFits m (Ok (RowAlias out w)) = (out.0 < m) × (slot_of_driver w < 2 ^ 64)
-RowFits m (Ok (RowCell out n)) = (out.0 < m) × All HasWord n.wires
+-- the output wire is one of m, and what is stored fits a word
+abbrev pub GateFits : ℕ → Gate → Type 0
+GateFits m (Alias out w) = (out.0 < m) × (slot_of_driver w < 2 ^ 64)
+GateFits m (Cell out n) = (out.0 < m) × All HasWord n.wires
 
-pub record RowIs (m : ℕ) (x : Try Gate) (r : Try Row) : Type 0 where
-  pub is : gate_of r ≡ x
-  pub fits : RowFits m r
+-- the answer is the definition's, and its gates fit
+pub record RowIs (m : ℕ) (x : Try (List Gate)) (r : Try Gates) : Type 0 where
+  pub is : gates_read r ≡ x
+  pub fits : IfOk r (λ g. All (GateFits m) (gates_left g))
 
-unfoldable pub gate_by : List ℕ → ℕ → Slots → WireNumber → Try Gate
-gate_by op n slots out = and_then (operation op n) (λ o. Ok (gate out (drivers_of n slots) o))
+-- the gates of an operation, by what its input wires hold
+abbrev pub gates_by : Operation → ℕ → Slots → WireNumber → Try (List Gate)
+gates_by Copy n slots out = need (eqb n 1) WrongCount (Ok (alias_gate out (driver_of_slot slots.first)))
+gates_by (One t) n slots out = need (eqb n 1) Unknown (Ok (cell_gate out t (drivers_of n slots)))
+gates_by (Two t) n slots out = need (eqb n 2) Unknown (Ok (cell_gate out t (drivers_of n slots)))
+gates_by Unlisted n slots out = Err Unknown
 
-unfoldable pub output_by : List ℕ → List ℕ → ℕ → Slots → ℕ → Try Gate
+unfoldable pub output_by : List ℕ → Operation → ℕ → Slots → ℕ → Try (List Gate)
 output_by w op n slots m =
-    cond slots.invalid (Err NotNumber)
-    (and_then (number w) (λ out. need (ltb out m) OutputOutside
-    (cond slots.undriven (Err NoDriver) (gate_by op n slots (wire_number out)))))
+    if slots.invalid then Err NotNumber
+    else and_then (number w) (λ out. need (ltb out m) OutputOutside
+    (if slots.undriven then Err NoDriver else gates_by op n slots (wire_number out)))
 
-unfoldable pub end_by : List (List ℕ) → ℕ → Slots → ℕ → Try Gate
-end_by ws n slots m = need (eqb (length ws) 2) Malformed (output_by (get_or ws 0 []) (get_or ws 1 []) n slots m)
+unfoldable pub end_by : List (List ℕ) → ℕ → Slots → ℕ → Try (List Gate)
+end_by ws n slots m =
+    need (eqb (length ws) 2) Malformed (output_by (get_or ws 0 []) (operation (get_or ws 1 [])) n slots m)
 
-unfoldable pub wires_by : List ℕ → ℕ → List (List ℕ) → Try Gate
-wires_by wires n ws = need (eqb (length ws) (n + 2)) Malformed (row_wires wires n ws)
+unfoldable pub wires_by : List ℕ → ℕ → List (List ℕ) → Try (List Gate)
+wires_by wires n ws =
+    need (eqb (length ws) (n + 2)) Malformed (row_wires wires n (operation (get_or (drop n ws) 1 [])) ws)
 
 -- what a row is refused with where an arity is no number
 abbrev pub invalid_arity : ℕ → List (List ℕ) → Refusal

@@ -1,6 +1,4 @@
 // What the calls of this crate answer.
-use circuit::records::{BoolNode, BoolWire, WireNumber};
-
 /// The widths of a group line: how many, and their sum if it is at most a limit.
 #[derive(Clone, Copy)]
 pub struct Widths {
@@ -39,11 +37,4 @@ pub struct Slots {
 pub struct Inputs {
     pub count: usize,
     pub slots: Slots,
-}
-
-/// What a row makes of its output wire: another name of a wire of the circuit, or a cell.
-#[derive(Clone, Copy)]
-pub enum Row {
-    Alias { out: WireNumber, wire: BoolWire },
-    Cell { out: WireNumber, node: BoolNode },
 }

@@ -3,6 +3,7 @@
 #![tactic(auto)]
 
 pub mod answers;
+pub mod gates;
 pub mod header;
 pub mod numbers;
 pub mod operation;

@@ -6,11 +6,13 @@ ghost use Rattle.bristol_rows.specs.Words.{words_left};
 ghost use Rattle.circuit.specs.declared.records.Name.TheVariants.{Number};
 ghost use Rattle.circuit.specs.Records.{cell_node};
 ghost use Rattle.bristol_rows.specs.Row.{row};
-ghost use Rattle.bristol_rows.specs.Promises.{add_slot, add_input, InputsAre, drivers_of, CellIs, RowIs, gate_by, output_by, end_by, wires_by, wrong_outputs};
+ghost use Rattle.bristol_rows.specs.Operation.{operation};
+ghost use Rattle.bristol_rows.specs.Promises.{add_slot, add_input, InputsAre, drivers_of, CellIs, RowIs, gates_by, output_by, end_by, wires_by, wrong_outputs};
 
-use crate::answers::{Inputs, Row, Slots};
+use crate::answers::{Inputs, Slots};
+use crate::gates::{Gate, Gates};
 use crate::numbers::{next_arity, read_number};
-use crate::operation::read_operation;
+use crate::operation::{Operation, read_operation};
 use crate::slots::{UNDRIVEN, driver_of_slot, slot_of};
 use crate::words::{LineWords, count_words, split_whitespace};
 use circuit::records::{BoolNode, Name, WireNumber};
@@ -78,30 +80,41 @@ pub fn row_cell(out: WireNumber, table: usize, inputs: Inputs) -> BoolNode
     BoolNode::cell(Name::Number(out), table, &drivers[..count])
 }
 
-/// What a row makes by its operation, the wires being in order. `WrongCount` or `Unknown` if the operation does not take so
-/// many inputs.
-#[tactic(auto, unfolding(crate::specs::Promises::gate_by))]
-pub fn row_gate(op: &[u8], inputs: Inputs, out: WireNumber, wires: usize) -> Result<Row, Refusal>
+/// The gates of an operation, its wires being in order: `WrongCount` or `Unknown` if it does not take so many inputs.
+pub fn row_gates(
+    op: Operation,
+    inputs: Inputs,
+    out: WireNumber,
+    wires: usize,
+) -> Result<Gates, Refusal>
     requires { out.0 < wires }
-    ensures { RowIs wires (gate_by op.now inputs.count inputs.slots out) result }
+    ensures { RowIs wires (gates_by op inputs.count inputs.slots out) result }
 {
-    Ok(match read_operation(op, inputs.count)? {
-        None => Row::Alias {
+    let gate = match (op, inputs.count) {
+        (Operation::Copy, 1) => Gate::Alias {
             out,
             wire: driver_of_slot(inputs.slots.first),
         },
-        Some(table) => Row::Cell {
+        (Operation::Copy, _) => return Err(Refusal::WrongCount),
+        (Operation::One(table), 1) | (Operation::Two(table), 2) => Gate::Cell {
             out,
             node: row_cell(out, table, inputs),
         },
-    })
+        _ => return Err(Refusal::Unknown),
+    };
+    Ok(Gates { rest: Some(gate) })
 }
 
-/// What a row makes, by the words of its output wire and of its operation: `NotNumber` if one of its wires is no number,
-/// `OutputOutside`, `NoDriver`, then the operation's refusals.
+/// The gates of an operation, by the word of its output wire: `NotNumber` if one of its wires is no number, `OutputOutside`,
+/// `NoDriver`, then what its inputs are refused with.
 #[tactic(auto, unfolding(crate::specs::Promises::output_by))]
-pub fn row_output(wire: &[u8], op: &[u8], inputs: Inputs, wires: usize) -> Result<Row, Refusal>
-    ensures { RowIs wires (output_by wire.now op.now inputs.count inputs.slots wires) result }
+pub fn row_output(
+    wire: &[u8],
+    op: Operation,
+    inputs: Inputs,
+    wires: usize,
+) -> Result<Gates, Refusal>
+    ensures { RowIs wires (output_by wire.now op inputs.count inputs.slots wires) result }
 {
     if inputs.slots.invalid {
         return Err(Refusal::NotNumber);
@@ -113,23 +126,23 @@ pub fn row_output(wire: &[u8], op: &[u8], inputs: Inputs, wires: usize) -> Resul
     if inputs.slots.undriven {
         return Err(Refusal::NoDriver);
     }
-    row_gate(op, inputs, out, wires)
+    row_gates(op, inputs, out, wires)
 }
 
-/// What a row makes, by the words after its input wires: `Malformed` unless they are two.
+/// The gates of a row, by the words after its input wires: `Malformed` unless they are two.
 #[tactic(auto, unfolding(crate::specs::Promises::end_by))]
-pub fn row_end(mut words: LineWords, inputs: Inputs, wires: usize) -> Result<Row, Refusal>
+pub fn row_end(mut words: LineWords, inputs: Inputs, wires: usize) -> Result<Gates, Refusal>
     ensures { RowIs wires (end_by (words_left words.entry) inputs.count inputs.slots wires) result }
 {
-    let (Some(wire), Some(op), None) = (words.next(), words.next(), words.next()) else {
+    let (Some(wire), Some(name), None) = (words.next(), words.next(), words.next()) else {
         return Err(Refusal::Malformed);
     };
-    row_output(wire, op, inputs, wires)
+    row_output(wire, read_operation(name), inputs, wires)
 }
 
-/// What a row with one output makes, by the words after its arities.
+/// The gates of a row with one output, by the words after its arities.
 #[tactic(auto, using(crate::proofs::RowLaws::wires_end))]
-pub fn row_wires(mut words: LineWords, count: usize, wires: &[usize]) -> Result<Row, Refusal>
+pub fn row_wires(mut words: LineWords, count: usize, wires: &[usize]) -> Result<Gates, Refusal>
     ensures { RowIs (length wires.now) (wires_by wires.now count (words_left words.entry)) result }
 {
     let slots = read_inputs(&mut words, count, wires).ok_or(Refusal::Malformed)?;
@@ -148,8 +161,8 @@ pub fn outputs_wrong(words: LineWords, inputs: usize, outputs: usize) -> Refusal
     }
 }
 
-/// What a row makes of its output wire, by the slots of all wires of the file.
-pub fn read_row(line: &[u8], wires: &[usize]) -> Result<Row, Refusal>
+/// The gates of a row, by the slots of all wires of the file.
+pub fn read_row(line: &[u8], wires: &[usize]) -> Result<Gates, Refusal>
     ensures { RowIs (length wires.now) (row wires.now (split_whitespace line.now)) result }
 {
     let mut words = split_whitespace(line);

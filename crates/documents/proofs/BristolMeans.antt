@@ -28,6 +28,7 @@ use Rattle.text.specs.Lines.{kept_lines}
 use Rattle.text.specs.Numbers.{parse_each}
 use Rattle.values.specs.Values.{signal_value, outputs_from as signals, storage_outputs, evaluated}
 use Rattle.values.proofs.Storage.{Known, evaluate_same}
+use Rattle.reading.specs.Reading.{each}
 use Rattle.bristol_rows.specs.declared.answers.Head.{Head}
 use Rattle.bristol_rows.specs.Numbers.{or_refuse, each_number}
 use Rattle.bristol_rows.specs.Header.{grouped_wire_count, groups, group_lines, two_numbers, header}
@@ -43,11 +44,11 @@ use Rattle.documents.proofs.BristolGates.{nums_are, step_follows}
 
 rows_follow : (ins : List ℕ) (room : ℕ) (ls : List (List ℕ)) (s s' : State) (bits : List ℕ) → Follows ins s bits → rows room ls s ≡ Ok s' → all_page_gates ls ≡ true
     → Follows ins s' (gate_steps bits ls)
-unfolding rows row_step gate_steps all_page_gates
+unfolding each row_step gate_steps all_page_gates
 rows_follow ins room [] s s' bits f h k = subst (λ (z : State). Follows ins z bits) (yes_same h) f
 rows_follow ins room (l ∷ ls) s s' bits f h k =
     let a = then_yes (row_step room l s) (rows room ls) s' h in
-    let b = then_yes (row s.wires (split_whitespace l)) (λ g. store room g s) a.0 a.1 in
+    let b = then_yes (row s.wires (split_whitespace l)) (λ gs. store room gs s) a.0 a.1 in
     let c = and_parts (is_page_gate (split_whitespace l)) (all_page_gates ls) k in
     rows_follow ins room ls a.0 s' (gate_step bits (split_whitespace l)) (step_follows ins s bits f room (split_whitespace l) b.0 a.0 b.1 b.2 c.0) a.2 c.1
 

@@ -29,9 +29,9 @@ use Rattle.bench_gates.specs.Gates.{input_wires, chain, chained, lower_gate}
 use Rattle.bench.specs.Bench.{gate_invoked, gate_of, gate_line, declaration_of, declared_in, declare, declaration_line, line_step as benchLine, read_line, bench_lines}
 use Rattle.bristol_rows.specs.Numbers.{number, each_number}
 use Rattle.bristol_rows.specs.Header.{grouped_wire_count, groups, group_lines, two_numbers, header}
-use Rattle.bristol_rows.specs.Operation.{is_alias, inverts, two_input_table, truth_table, operation}
-use Rattle.bristol_rows.specs.Row.{drivers as rowDrivers, row_output, row_wires, row}
-use Rattle.bristol.specs.Bristol.{drive, store_cell, store, row_step, rows, outputs_from as lastWires, start, body, circuit, bristol_circuit}
+use Rattle.bristol_rows.specs.Operation.{is_alias, inverts, operation}
+use Rattle.bristol_rows.specs.Row.{drivers as rowDrivers, gates_of, row_output, row_wires, operation_row, row}
+use Rattle.bristol.specs.Bristol.{drive, store_cell, store_gate, row_step, outputs_from as lastWires, start, body, circuit, bristol_circuit}
 use Rattle.ordering.specs.Schedule.{key_at, above, best, pick, next, schedule_from, schedule_of}
 use Rattle.schedule.specs.Call.{graph_in, order_in, room, call_fault, circle_fault, schedule_fault, schedule_call}
 use Rattle.ordering.specs.Promises.{leaves_out}
@@ -50,7 +50,7 @@ unfolding starred sample wire_places node_from input_node cell_node encode_node
     blif_lines read_lines lines places line_step row_next directive_step directive_of directive rows_of words each add_input add_output add_named add_node add_name add_alias names_line plan input_names last_of drivers covered gate find lookup finish resolve closed
     cover constant rows_table set_rows with_row row_of row_with bit_of set_row set_from matches fits start_table set_bit same_bytes stretch
     bench_lines read_line benchLine gate_line gate_of gate_invoked declaration_line declared_in declare declaration_of parse_invocation invocation arguments_of none_empty parts up_to_last trimmed run operation_of binary_of upper input_wires lower_gate chained chain
-    bristol_circuit circuit body start lastWires rows row_step store store_cell drive row row_wires row_output rowDrivers operation truth_table two_input_table inverts is_alias header two_numbers group_lines groups grouped_wire_count each_number number parse_each parse_usize digits digits_from value_from all_digits split_whitespace sum
+    bristol_circuit circuit body start lastWires row_step store_gate store_cell drive row operation_row row_wires row_output gates_of rowDrivers operation inverts is_alias header two_numbers group_lines groups grouped_wire_count each_number number parse_each parse_usize digits digits_from value_from all_digits split_whitespace sum
     schedule_call schedule_fault call_fault circle_fault room leaves_out graph_in order_in schedule_of schedule_from next pick best above key_at graph_of vertex_of nodes_read outside is_cell reads_of waits free ready ready_cells cells_of numbers records_fault whole circuit_broken node_broken record_broken cell_broken wires_of is_cell_node
     run_call after_call run_fault assignment_fault order_fault room_fault wrong_assignment input_count topological_fault check_circuit check_nodes check_node check_wires fit fit_list run_outputs run_store steps step put_in answer_of outputs_from no_node storage_outputs storage_values values_from
     digits_below decimal spaced node_head input_line cell_line node_line node_lines output_line output_lines count_line order_line listing keys_from

@@ -1,27 +1,30 @@
-use Rattle.std.proofs.Common.{◌≡◌, ◌*◌, ℕ, List, slice_set, sym, ap, ap₂, arith, subst}
+use Rattle.std.proofs.Common.{◌≡◌, ◌+◌, ◌*◌, ◌≤◌, ◌++◌, ◌∷◌, [], ℕ, List, slice_set, length, sym, ap, ap₂, arith, subst}
 use mathlib.Core.Path.{◌∙◌}
-use Rattle.laws.specs.Areas.{stored, up_from}
-use Rattle.laws.proofs.Areas.{length_up}
 use Rattle.laws.proofs.Sums.{up_next, front_more}
 use Rattle.circuit.specs.declared.records.TheConstants.{NODE_WORDS}
 use Rattle.circuit.specs.declared.records.BoolNode.{BoolNode}
-use Rattle.circuit.specs.Records.{encode_node}
-use Rattle.bristol.specs.Bristol.{wire_input, input_slot}
-use Rattle.bristol.specs.Promises.{HoldsNodes}
-use Rattle.bristol.proofs.StoreLaws.{hold_node}
+use Rattle.circuit.specs.Circuits.{Padded}
+use Rattle.circuit.proofs.Codes.{input_padded}
+use Rattle.reading.proofs.Storing.{more_nodes, more_hold}
+use Rattle.bristol.specs.Bristol.{State, driven, wire_input, input_slot}
 use Rattle.bristol.proofs.reader.put_inputs.Goals as goal
 
 pub loop-wire-preserved : goal.loop-wire-preserved
 loop-wire-preserved c =
-    let k : ℕ = c.loop-wire.wire.0 in
-    let i = c.loop-wire.invariant in
-    let held : List BoolNode = up_from wire_input 0 k in
-    let stored_now : c.put_node.new.nodes ≡ stored c.loop-wire.nodes (k * NODE_WORDS) (encode_node (wire_input k)) =
-    c.put_node.ensures ∙ ap₂ (λ (j : ℕ) (n : BoolNode). stored c.loop-wire.nodes (j * NODE_WORDS) (encode_node n)) i.0 c.input.ensures in (
+    let l = c.loop-wire in
+    let i = l.invariant in
+    let next : ℕ = l.next.0 in
+    let x : BoolNode = c.input.result in
+    let fine : Padded x = subst Padded (sym c.input.ensures) (input_padded _) in
+    let room : next * NODE_WORDS + NODE_WORDS ≤ length l.nodes = omega (arith, i.0, i.2, c.loop-wire-test.true, c.requires.rooms.0) in
+    let is : x ≡ wire_input next = c.input.ensures ∙ ap wire_input (sym i.0) in
+    let more = more_nodes l.nodes c.put_node.new.nodes next x fine c.put_node.ensures c.put_node.auto.nodes room i.3 in (
       omega (arith, i.0),
       omega (arith, c.loop-wire-test.true),
-      subst (HoldsNodes c.put_node.new.nodes) (sym (up_next wire_input k))
-          (hold_node c.loop-wire.nodes c.put_node.new.nodes held (wire_input k) k (length_up wire_input 0 k) stored_now c.put_node.auto.nodes i.2),
-      ap (slice_set c.loop-wire.wires k) (c.slot_of_node.ensures ∙ ap input_slot i.0)
-          ∙ front_more input_slot c.loop-wire.wires c.args.wires.now 0 k (omega (arith, c.loop-wire-test.true)) i.3,
+      c.put_node.auto.nodes ∙ i.2,
+      more_hold l.nodes c.put_node.new.nodes next x fine c.put_node.ensures c.put_node.auto.nodes room i.3,
+      ap₂ driven
+          (more ∙ ap₂ (λ (ns : List BoolNode) (n : BoolNode). ns ++ (n ∷ [])) (ap (λ (s : State). s.nodes) i.4) is ∙ sym (up_next wire_input next))
+          (ap₂ (λ (j v : ℕ). slice_set l.wires j v) (sym i.0) c.slot_of_node.ensures
+          ∙ front_more input_slot l.wires c.args.wires.now 0 next (omega (arith, i.0, c.loop-wire-test.true, c.requires.rooms.1)) (ap (λ (s : State). s.wires) i.4)),
     )

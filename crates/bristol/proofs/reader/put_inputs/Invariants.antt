@@ -1,7 +1,7 @@
-use Rattle.std.proofs.Common.{◌≡◌, ◌++◌, ◌-◌, ◌≤◌, drop}
-use Rattle.laws.specs.Areas.{up_from}
-use Rattle.bristol.specs.Bristol.{wire_input, input_slot}
-use Rattle.bristol.specs.Promises.{HoldsNodes}
+use Rattle.std.proofs.Common.{◌≡◌, ◌-◌, ◌≤◌, length}
+use Rattle.reading.specs.Holding.{NodesHold}
+use Rattle.bristol.specs.Bristol.{with_inputs}
+use Rattle.bristol.specs.Promises.{state_of}
 use Rattle.bristol.proofs.reader.put_inputs.Given as goal
 
 abbrev pub decreases-loop-wire : goal.decreases-loop-wire
@@ -11,5 +11,6 @@ abbrev pub invariant-loop-wire : goal.invariant-loop-wire
 invariant-loop-wire l =
     (l.next.0 ≡ l.wire.0)
     × (l.wire.0 ≤ l.count)
-    × HoldsNodes l.nodes (up_from wire_input 0 l.wire.0)
-    × (l.wires ≡ up_from input_slot 0 l.wire.0 ++ drop l.wire.0 l.initial.wires)
+    × (length l.nodes ≡ length l.initial.nodes)
+    × NodesHold l.nodes l.next.0
+    × (state_of l.nodes l.wires l.next ≡ with_inputs l.next.0 l.initial.wires)

@@ -5,10 +5,9 @@ use lib.Seq.{length-take-le}
 use Rattle.std.proofs.lemmas.List.{drop-replicate, take-replicate}
 use Rattle.laws.specs.Areas.{capacity}
 use Rattle.circuit.specs.declared.records.TheConstants.{NODE_WORDS, OUTPUT_WORDS}
-use Rattle.circuit.specs.Records.{encode_node, encode_output}
 use Rattle.text.specs.Iterators.{kept_left}
 use Rattle.bristol.specs.Bristol.{circuit}
-use Rattle.bristol.proofs.ReadLaws.{zeros_hold, leaves_more, circuit-body}
+use Rattle.bristol.proofs.ReadLaws.{no_nodes, no_outputs, leaves_more, circuit-body}
 use Rattle.bristol.proofs.reader.read_circuit.Goals as goal
 
 pub read_clean-requires : goal.read_clean-requires
@@ -20,8 +19,8 @@ read_clean-requires c =
     record {
       fits = g.fits;
       room = omega (arith, c.records_in-else-records_in-head.ensures, c.if-records_in-head-2.false);
-      nodes_empty = zeros_hold encode_node NODE_WORDS c.args.nodes.now c.requires.0;
-      outputs_empty = zeros_hold encode_output OUTPUT_WORDS c.args.outputs.now c.requires.1;
+      nodes_hold = no_nodes c.args.nodes.now c.requires.0;
+      outputs_hold = no_outputs c.args.outputs.now c.requires.1;
       wires_zero = ap (take n) c.requires.2 ∙ take-replicate {X = ℕ} n (length c.args.wires.now) 0 l;
     }
 

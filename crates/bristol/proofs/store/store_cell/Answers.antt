@@ -1,12 +1,10 @@
-use Rattle.std.proofs.Common.{◌++◌, ◌∷◌, [], ◌<◌, length, arith}
 use Rattle.std.proofs.lemmas.Result.{err_from_is_err_and}
-use Rattle.laws.specs.Areas.{capacity}
-use Rattle.circuit.specs.declared.records.TheConstants.{NODE_WORDS}
-use Rattle.bristol.proofs.StoreLaws.{cell_refused}
+use Rattle.circuit.proofs.Codes.{length_nodes}
+use Rattle.bristol.specs.Bristol.{store_cell}
 use Rattle.bristol.proofs.store.store_cell.Goals as goal
 
-pub returns-in_err-drive : goal.returns-in_err-drive
-returns-in_err-drive c ns p h =
-    let q = err_from_is_err_and c.from_residual.result c.from_residual.ensures.1 in
-    let l : c.args.next.0 < capacity NODE_WORDS (length c.args.nodes.now) = omega (arith, c.records_in.ensures, c.if-records_in-next.false) in
-    rw (q.1, q.2) (cell_refused (capacity NODE_WORDS (length c.args.nodes.now)) c.args.out c.args.cell ns c.args.wires.now c.args.next.0 p l _ (c.in_err-drive.ensures (ns ++ (c.args.cell ∷ []))))
+pub returns-in_err-drive-clause-step : goal.returns-in_err-drive-clause-step
+unfolding store_cell
+returns-in_err-drive-clause-step c =
+    let q = err_from_is_err_and c.from_residual-in_err-drive.result c.from_residual-in_err-drive.ensures.1 in
+    rw (q.1, q.2, ← c.in_ok-count.ensures.step, length_nodes c.args.nodes.now c.args.next.0, ← c.in_err-drive.ensures.step)
