@@ -16,7 +16,8 @@ pub fn put_wire(outputs: &mut [usize], count: usize, w: WireNumber, slot: usize)
     requires area { OutputsHold outputs.old count }
     requires room { count * OUTPUT_WORDS + OUTPUT_WORDS ≤ length outputs.old }
     ensures area { OutputsHold outputs.new (count + 1) }
-    ensures step { outputs_of outputs.new (count + 1) ≡ outputs_of outputs.old count ++ (output_of w slot ∷ []) }
+    ensures step { outputs_of outputs.new (count + 1)
+        ≡ outputs_of outputs.old count ++ (output_of w slot ∷ []) }
 {
     let output = Output {
         name: Name::Number(w),
@@ -36,8 +37,8 @@ pub fn put_wires(
     requires first_is_a_wire { first.0 ≤ length wires.now }
     requires area { OutputsHold outputs.old 0 }
     ensures area { OutputsHoldAfter outputs.new result }
-    ensures step { OutputsStep (λ room. outputs_from room first.0 (drop first.0 wires.now)) outputs.old 0
-        outputs.new result }
+    ensures step { OutputsStep (λ room. outputs_from room first.0 (drop first.0 wires.now))
+        outputs.old 0 outputs.new result }
 {
     let room = records_in(outputs.len(), OUTPUT_WORDS);
     let mut wire = first;

@@ -25,7 +25,8 @@ use text::lines::KeptLines;
 /// is the number of the node after them.
 #[tactic(auto, using(circuit::proofs::Words::input_fits))]
 pub fn put_inputs(nodes: &mut [usize], wires: &mut [usize], count: usize) -> NodeNumber
-    requires rooms { (count * NODE_WORDS ≤ length nodes.old) × (count ≤ length wires.old) × (count ≤ MOST_RECORDS) }
+    requires rooms { (count * NODE_WORDS ≤ length nodes.old) × (count ≤ length wires.old)
+        × (count ≤ MOST_RECORDS) }
     requires areas { NodesHold nodes.old 0 }
     ensures areas { NodesHold nodes.new result.0 }
     ensures step { state_of nodes.new wires.new result ≡ with_inputs count wires.old }
@@ -77,8 +78,8 @@ pub fn read_clean(
     wires: &mut [usize],
 ) -> Result<Sizes, Refusal>
     requires { Ready head nodes.old outputs.old wires.old }
-    ensures { LeavesAreas (leaving (body_in head (kept_left lines.entry))) nodes.old outputs.old wires.old
-        result nodes.new outputs.new wires.new }
+    ensures { LeavesAreas (leaving (body_in head (kept_left lines.entry)))
+        nodes.old outputs.old wires.old result nodes.new outputs.new wires.new }
 {
     let read = read_body(lines, head, nodes, outputs, wires);
     wires.fill(0);
@@ -98,8 +99,8 @@ pub fn read_circuit(
     wires: &mut [usize],
 ) -> Result<Sizes, Refusal>
     requires { Zeros nodes.old × Zeros outputs.old × Zeros wires.old }
-    ensures { LeavesAreas (leaving (circuit_in (kept_lines text.now))) nodes.old outputs.old wires.old
-        result nodes.new outputs.new wires.new }
+    ensures { LeavesAreas (leaving (circuit_in (kept_lines text.now)))
+        nodes.old outputs.old wires.old result nodes.new outputs.new wires.new }
 {
     let mut lines = kept_lines(text);
     let head = read_header(&mut lines)?;

@@ -22,7 +22,8 @@ pub fn row_step(
 ) -> Result<NodeNumber, Refusal>
     requires areas { NodesHold nodes.old next.0 }
     ensures areas { NodesHoldNext nodes.new result }
-    ensures step { StateStep (λ room. row_step room line.now) nodes.old wires.old next nodes.new wires.new result }
+    ensures step { StateStep (λ room. row_step room line.now)
+        nodes.old wires.old next nodes.new wires.new result }
 {
     let gates = read_row(line, wires)?;
     store_gates(nodes, wires, next, gates)

@@ -42,7 +42,8 @@ pub fn store_cell(
     requires out_in_bounds { out.0 < length wires.old }
     requires wires_fit { All HasWord cell.wires }
     ensures areas { NodesHoldNext nodes.new result }
-    ensures step { StateStep (store_cell out cell) nodes.old wires.old next nodes.new wires.new result }
+    ensures step { StateStep (store_cell out cell)
+        nodes.old wires.old next nodes.new wires.new result }
 {
     let count = add_node(cell, next.0, nodes)?;
     drive(wires, out, BoolWire::Node(next))?;
@@ -60,7 +61,8 @@ pub fn store_gate(
     requires areas { NodesHold nodes.old next.0 }
     requires fits { GateFits (length wires.old) gate }
     ensures areas { NodesHoldNext nodes.new result }
-    ensures step { StateStep (λ room. store_gate room gate) nodes.old wires.old next nodes.new wires.new result }
+    ensures step { StateStep (λ room. store_gate room gate)
+        nodes.old wires.old next nodes.new wires.new result }
 {
     match gate {
         Gate::Alias { out, wire } => {

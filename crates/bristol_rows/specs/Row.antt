@@ -31,14 +31,16 @@ alias_gate out d = Alias out d ∷ []
 abbrev pub cell_gate : WireNumber → ℕ → List BoolWire → List Gate
 cell_gate out t ds = Cell out (cell_node (Number out) t ds) ∷ []
 
--- the gates of an operation on wires of the circuit: a wrong number of them is a wrong count where the output copies its input
+-- the gates of an operation on wires of the circuit, if they are as many as it takes: a copy of another number
+-- is a wrong count, and no other operation has a name for another number
 abbrev pub gates_on : WireNumber → List BoolWire → Operation → Try (List Gate)
 gates_on out ds Copy = need (eqb (length ds) 1) WrongCount (Ok (alias_gate out (get_or ds 0 no_wire)))
 gates_on out ds (One t) = need (eqb (length ds) 1) Unknown (Ok (cell_gate out t ds))
 gates_on out ds (Two t) = need (eqb (length ds) 2) Unknown (Ok (cell_gate out t ds))
 gates_on out ds Unlisted = Err Unknown
 
--- the gates of an operation, by the numbers of its input wires and its output wire: the operation looks up what drives them
+-- the gates of an operation, by the numbers of its input wires and its output wire: each operation so far looks up
+-- what drives its inputs
 unfoldable pub gates_of : List ℕ → List ℕ → WireNumber → Operation → Try (List Gate)
 gates_of wires ins out op = and_then (drivers wires (map wire_number ins)) (λ ds. gates_on out ds op)
 

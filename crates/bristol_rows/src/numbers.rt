@@ -30,7 +30,8 @@ pub fn arity_invalid(words: LineWords, least: usize) -> Refusal
 /// The next word as an arity. Inlined, so that the words stay in registers: reading takes a seventh less time.
 #[inline(always)]
 pub fn next_arity(words: &mut LineWords, least: usize) -> Result<usize, Refusal>
-    ensures { (result ≡ first_arity least (words_left words.old)) × (words_left words.new ≡ drop 1 (words_left words.old)) }
+    ensures value { result ≡ first_arity least (words_left words.old) }
+    ensures rest { words_left words.new ≡ drop 1 (words_left words.old) }
 {
     let word = words.next().ok_or(Refusal::Malformed)?;
     match parse_usize(word) {
@@ -42,7 +43,8 @@ pub fn next_arity(words: &mut LineWords, least: usize) -> Result<usize, Refusal>
 /// The next word's number; malformed where no word is left.
 #[tactic(auto, using(crate::proofs::NumberLaws::first_any))]
 pub fn next_number(words: &mut LineWords) -> Result<usize, Refusal>
-    ensures { (result ≡ first_number (words_left words.old)) × (words_left words.new ≡ drop 1 (words_left words.old)) }
+    ensures value { result ≡ first_number (words_left words.old) }
+    ensures rest { words_left words.new ≡ drop 1 (words_left words.old) }
 {
     next_arity(words, 0)
 }
