@@ -3,6 +3,7 @@
 #![tactic(auto)]
 
 pub mod answers;
+pub mod assured;
 pub mod checking;
 pub mod parsing;
 pub mod running;
