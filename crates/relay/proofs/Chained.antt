@@ -1,8 +1,8 @@
 -- The exported calls one after the other, from the definition of each.
 -- Assumes nothing.
 use Rattle.std.specs.Prelude.{Ok}
-use Prim.Native.Nat.{ℕ, ◌*◌, ◌≤◌}
-use mathlib.Core.Path.{◌≡◌, refl, sym, ap, ◌∙◌}
+use Prim.Native.Nat.{ℕ, ◌≤◌}
+use mathlib.Core.Path.{◌≡◌, sym, ap, ◌∙◌}
 use mathlib.Core.Bool.{false}
 use mathlib.Core.List.{List}
 use lib.ListN.{length, take, replicate, length-replicate}
@@ -20,14 +20,14 @@ use Rattle.values.specs.Calls.{CallResult, after_call, evaluate_call}
 use Rattle.runs.specs.Calls.{run_call}
 use Rattle.blif.specs.Blif.{blif}
 use Rattle.bench.specs.Bench.{bench}
-use Rattle.bristol.specs.Bristol.{bristol, bristol_circuit}
+use Rattle.bristol.specs.Bristol.{bristol}
 use Rattle.blif.proofs.Sound.{blif-sound}
 use Rattle.bench.proofs.Sound.{bench-sound}
 use Rattle.bristol.proofs.Sound.{bristol-sound}
 use Rattle.assurance.specs.Assurance.{Question, Areas, node_records, output_records, order_of, outputs_of, Lent, Assured as IsAssured}
 use Rattle.assurance.proofs.Assuring.{output_count, nodes-in, wires-in, graph-in, order-in, accepted, number, assured}
 use Rattle.assurance.proofs.Composing.{records_front}
-use Rattle.relay.specs.Answers.{read_nodes, read_outputs, JoinedCall, BristolCall, count_of, result_of}
+use Rattle.relay.specs.Answers.{read_nodes, read_outputs, count_of, result_of}
 use Rattle.relay.specs.Assured.{Answers, Called, CallsAssured, AssuredOf, JoinedAssured, BlifAssured, BenchAssured, BristolAssured}
 
 -- ---- the schedule, the run and `evaluate`
@@ -35,9 +35,6 @@ use Rattle.relay.specs.Assured.{Answers, Called, CallsAssured, AssuredOf, Joined
 module _ (c : Circuit) (q : Question) (before : Areas) (rules : KeepsRules c) (lent : Lent c q before) where
   claims : IsAssured c q before
   claims = assured c q before rules lent
-
-  cells : ℕ
-  cells = length (cells_of (graph_of c.nodes))
 
   schedule_is : schedule_call (node_records c) (output_records c) q.window q.keys before.ready before.successors before.order
       ≡ leaves (Ok (length (cells_of (graph_of c.nodes)))) (replicate (length before.ready) 0) (replicate (length before.successors) 0) (filled (order_of c q) (length before.order))
