@@ -9,6 +9,8 @@
  * - what a call writes (areas and counts) overlaps no other argument of the same call. What is only read may overlap.
  * An area that is longer than needed costs the time to clear it; one that is too short is refused (RELAY_NO_ROOM).
  *
+ * The archive needs memset from whoever links it, and nothing else.
+ *
  * The calls keep nothing between them, allocate nothing and may run in parallel on areas of their own. relay_run takes some 17 KB of
  * stack, and 129 KB for a circuit of more than 131,072 nodes; the others take less than 4 KB.
  */

@@ -53,15 +53,15 @@ module _ (read : Try Circuit) (n o : ℕ) (r : Try Sizes) (N O : List ℕ) (answ
 
   module _ (q : Question) (before : Areas) (b : Both) (after : Areas) (run : ReadRun N O r q before b after) where
     text_run : TextRun read q before b after
-    text_run = go read refl (rw answer at run)
+    text_run = go read refl (rw answer at read_inside) (rw answer at run)
       where
-        go : (x : Try Circuit) → read ≡ x → ReadRun N O (read_answer x) q before b after → TextRun x q before b after
-        go (Err e) p h = h
-        go (Ok c) p h =
+        go : (x : Try Circuit) → read ≡ x → IfOk (read_answer x) (Inside N O) → ReadRun N O (read_answer x) q before b after → TextRun x q before b after
+        go (Err e) p inside h = h
+        go (Ok c) p inside h =
             rw (
               records_front encode_node NODE_WORDS node_wide c.nodes (length c.nodes) n N (rw p at nodes_are) refl,
               records_front encode_output OUTPUT_WORDS output_wide c.outputs (length c.outputs) o O (rw p at outputs_are) refl,
-            ) at h
+            ) at ((h.run inside).run)
 
     pub text_assured : ((c : Circuit) → read ≡ Ok c → KeepsRules c) → TextAssured read q before b after
     text_assured sound = record { run = text_run; carried = λ c p lent. carried c q before (sound c p) lent b after (rw p at text_run) }

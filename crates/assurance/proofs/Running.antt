@@ -20,7 +20,7 @@ use Rattle.values.specs.Calls.{CallResult, after_call, call_result, evaluate_fau
 use Rattle.runs.specs.Calls.{run_fault, run_call}
 use Rattle.assurance.specs.declared.circuits.Both.{Both}
 use Rattle.assurance.specs.Assurance.{Question, Areas, asked_fault}
-use Rattle.assurance.specs.Composed.{order_asked, Ran, RanOrRefused, CircuitRun, CircuitAssured}
+use Rattle.assurance.specs.Composed.{RanThenEvaluated, order_asked, Ran, RanOrRefused, CircuitRun, CircuitAssured}
 use Rattle.assurance.proofs.Carrying.{carried}
 
 -- ---- the value store after a call
@@ -50,6 +50,26 @@ evaluate_store nodes outputs assignment old answers e s o call =
 evaluate_lengths : (nodes outputs assignment old other answers : List ℕ) → length old ≡ length other → evaluate_call nodes outputs assignment old answers ≡ evaluate_call nodes outputs assignment other answers
 unfolding evaluate_call
 evaluate_lengths nodes outputs assignment old other answers e = rw e
+
+-- ---- the run, then `evaluate`
+
+pub ran_then_evaluated : (nodes outputs order assignment old answers evaluated : List ℕ) (r : Both) (mid v a w : List ℕ) → length mid ≡ length old
+    → call_result r.ran mid a ≡ run_call nodes outputs order assignment old answers
+    → call_result r.evaluated v w ≡ evaluate_call nodes outputs assignment mid evaluated
+    → RanThenEvaluated nodes outputs order assignment old answers evaluated r v a w
+ran_then_evaluated nodes outputs order assignment old answers evaluated r mid v a w l run evaluate =
+    record {
+      run_is = rw left at run;
+      evaluate_is = evaluate ∙ evaluate_lengths nodes outputs assignment mid old evaluated l;
+    }
+  where
+    left : mid ≡ v
+    left = run_store nodes outputs order assignment old answers r.ran mid a run
+        ∙ ap (λ (k : ℕ). replicate k 0) (sym l) ∙ sym (evaluate_store nodes outputs assignment mid evaluated r.evaluated v w evaluate)
+
+pub ran_cleared : (nodes outputs order assignment old answers evaluated : List ℕ) (r : Both) (v a w : List ℕ) → RanThenEvaluated nodes outputs order assignment old answers evaluated r v a w → v ≡ replicate (length old) 0
+ran_cleared nodes outputs order assignment old answers evaluated r v a w h =
+    run_store nodes outputs order assignment old answers r.ran v a h.run_is
 
 -- ---- the schedule
 
@@ -107,23 +127,18 @@ module _ (nodes outputs : List ℕ) (q : Question) (before : Areas) (x y z : Lis
     order_front : take cells z ≡ order_asked nodes q
     order_front = ap (take cells) order_area ∙ take_at (order_asked nodes q) _ cells count_is
 
-    pub accepted_run : (r : Both) (mid v a w : List ℕ) → length mid ≡ length before.values
-        → call_result r.ran mid a ≡ run_call nodes outputs (take cells z) q.assignment before.values before.answers
-        → call_result r.evaluated v w ≡ evaluate_call nodes outputs q.assignment mid before.evaluated
+    pub accepted_run : (r : Both) (v a w : List ℕ)
+        → RanThenEvaluated nodes outputs (take cells z) q.assignment before.values before.answers before.evaluated r v a w
         → CircuitRun nodes outputs q before r (record { ready = x; successors = y; order = z; values = v; answers = a; evaluated = w })
-    accepted_run r mid v a w l run evaluate = rw scheduled.accepted ran
+    accepted_run r v a w h = rw scheduled.accepted ran
       where
-        left : mid ≡ v
-        left = run_store nodes outputs (take cells z) q.assignment before.values before.answers r.ran mid a run
-            ∙ ap (λ (k : ℕ). replicate k 0) (sym l) ∙ sym (evaluate_store nodes outputs q.assignment mid before.evaluated r.evaluated v w evaluate)
-
         ran : Ran nodes outputs q before r (record { ready = x; successors = y; order = z; values = v; answers = a; evaluated = w })
         ran = record {
           ready_is = ap (λ (t : Left). t.ready) scheduled.same;
           successors_are = ap (λ (t : Left). t.successors) scheduled.same;
           order_is = order_area;
-          run_is = rw (left, order_front) at run;
-          evaluate_is = evaluate ∙ evaluate_lengths nodes outputs q.assignment mid before.values before.evaluated l;
+          run_is = rw order_front at h.run_is;
+          evaluate_is = h.evaluate_is;
         }
 
 -- ---- with the claims

@@ -42,6 +42,19 @@ pub record Refused (e : Refusal) (before : Areas) (r : Both) (after : Areas) : T
   pub evaluated_is : r.evaluated ≡ Err e
   pub areas_are : after ≡ zeroed before
 
+-- Nothing is run: both answers are the refusal, and the areas of the run and of `evaluate`, of so many bytes, are zeros.
+pub record RefusedRun (e : Refusal) (values answers evaluated : ℕ) (r : Both) (values' answers' evaluated' : List ℕ) : Type 0 where
+  pub ran_is : r.ran ≡ Err e
+  pub evaluated_is : r.evaluated ≡ Err e
+  pub values_are : values' ≡ replicate values 0
+  pub answers_are : answers' ≡ replicate answers 0
+  pub evaluated_are : evaluated' ≡ replicate evaluated 0
+
+-- The run along a list, then `evaluate`: each answers and leaves what its own definition says of the areas as they were, whether it accepts or refuses.
+pub record RanThenEvaluated (nodes outputs order assignment values answers evaluated : List ℕ) (r : Both) (values' answers' evaluated' : List ℕ) : Type 0 where
+  pub run_is : call_result r.ran values' answers' ≡ run_call nodes outputs order assignment values answers
+  pub evaluate_is : call_result r.evaluated values' evaluated' ≡ evaluate_call nodes outputs assignment values evaluated
+
 -- The order that is asked for, of the records that an area holds.
 abbrev pub order_asked : List ℕ → Question → List ℕ
 order_asked nodes q = order_in nodes (length nodes / NODE_WORDS) q.window q.keys

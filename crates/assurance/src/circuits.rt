@@ -1,7 +1,8 @@
 // A circuit's order, the run along it and `evaluate` in one call.
-ghost use Rattle.std.specs.Prelude.{◌≡◌, length, replicate, IfOk, Err};
-ghost use Rattle.assurance.specs.Composed.{question, CircuitAssured};
-ghost use Rattle.assurance.specs.Inner.{Inside, ReadRun};
+ghost use Rattle.std.specs.Prelude.{◌≡◌, ◌≤◌, ◌<◌, length, take, replicate, Err};
+ghost use Rattle.circuit.specs.declared.refusals.Refusal.TheVariants.{UnfitOrder};
+ghost use Rattle.assurance.specs.Composed.{question, Refused, RefusedRun, RanThenEvaluated, CircuitAssured};
+ghost use Rattle.assurance.specs.Inner.{ReadRun};
 
 use circuit::areas::clear_all;
 use circuit::records::{NODE_WORDS, OUTPUT_WORDS, Sizes};
@@ -39,6 +40,87 @@ pub fn refuse(e: Refusal, values: &mut [u8], answers: &mut [u8], evaluated: &mut
         ran: Err(e),
         evaluated: Err(e),
     }
+}
+
+/// Nothing is ordered or run: both answers are the refusal, and all six areas are zeros.
+pub fn refuse_both(
+    e: Refusal,
+    ready: &mut [usize],
+    successors: &mut [usize],
+    order: &mut [usize],
+    values: &mut [u8],
+    answers: &mut [u8],
+    evaluated: &mut [u8],
+) -> Both
+    ensures { Refused e
+        (record {
+          ready = ready.old;
+          successors = successors.old;
+          order = order.old;
+          values = values.old;
+          answers = answers.old;
+          evaluated = evaluated.old;
+        })
+        result
+        (record {
+          ready = ready.new;
+          successors = successors.new;
+          order = order.new;
+          values = values.new;
+          answers = answers.new;
+          evaluated = evaluated.new;
+        }) }
+{
+    clear_all(ready, successors, order);
+    refuse(e, values, answers, evaluated)
+}
+
+/// The run along the first `cells` entries of a list, then `evaluate`. Each answers and leaves what its own definition says, refusals too; `values` is zeros
+/// after either.
+pub fn run_and_evaluate(
+    nodes: &[usize],
+    outputs: &[usize],
+    order: &[usize],
+    cells: usize,
+    assignment: &[u8],
+    values: &mut [u8],
+    answers: &mut [u8],
+    evaluated: &mut [u8],
+) -> Both
+    requires { cells ≤ length order.now }
+    ensures { RanThenEvaluated nodes.now outputs.now (take cells order.now) assignment.now
+        values.old answers.old evaluated.old result values.new answers.new evaluated.new }
+{
+    let ran = run(nodes, outputs, &order[..cells], assignment, values, answers);
+    let evaluated = evaluate(nodes, outputs, assignment, values, evaluated);
+    Both { ran, evaluated }
+}
+
+/// The same of any number of cells: where the list has fewer entries both answers are `UnfitOrder`, and the areas of the run and of `evaluate` are zeros.
+pub fn run_ordered(
+    nodes: &[usize],
+    outputs: &[usize],
+    order: &[usize],
+    cells: usize,
+    assignment: &[u8],
+    values: &mut [u8],
+    answers: &mut [u8],
+    evaluated: &mut [u8],
+) -> Both
+    ensures ran_then_evaluated { cells ≤ length order.now
+        → RanThenEvaluated nodes.now outputs.now (take cells order.now) assignment.now
+        values.old answers.old evaluated.old result values.new answers.new evaluated.new }
+    ensures refused_run { length order.now < cells
+        → RefusedRun UnfitOrder (length values.old) (length answers.old) (length evaluated.old)
+        result values.new answers.new evaluated.new }
+    ensures values_after { values.new ≡ replicate (length values.old) 0 }
+{
+    if order.len() < cells {
+        return refuse(Refusal::UnfitOrder, values, answers, evaluated);
+    }
+    run_and_evaluate(
+        nodes, outputs, order, cells, assignment, values, answers, evaluated,
+    )
 }
 
 /// The schedule of a circuit, in two areas that hold its records and nothing else; the run along that order; and `evaluate`.
@@ -83,16 +165,15 @@ pub fn order_and_run(
         assignment,
     } = asked;
     match scheduled_gates_by_key(nodes, outputs, window, keys, ready, successors, order) {
-        Ok(cells) => {
-            let ran = run(nodes, outputs, &order[..cells], assignment, values, answers);
-            let evaluated = evaluate(nodes, outputs, assignment, values, evaluated);
-            Both { ran, evaluated }
-        }
+        Ok(cells) => run_and_evaluate(
+            nodes, outputs, order, cells, assignment, values, answers, evaluated,
+        ),
         Err(e) => refuse(e, values, answers, evaluated),
     }
 }
 
-/// The same of what a reader gave, the first records of two areas, or the reader's refusal.
+/// The same as `order_and_run` of what a reader gave, the first records of two areas, or the reader's refusal. Where an area has fewer records than the reader
+/// counts, both answers are `Broken`, and all six areas are zeros.
 pub fn run_read(
     nodes: &[usize],
     outputs: &[usize],
@@ -105,7 +186,6 @@ pub fn run_read(
     answers: &mut [u8],
     evaluated: &mut [u8],
 ) -> Both
-    requires inside { IfOk read (Inside nodes.now outputs.now) }
     ensures { ReadRun nodes.now outputs.now read (question asked.entry)
         (record {
           ready = ready.old;
@@ -126,20 +206,26 @@ pub fn run_read(
         }) }
 {
     match read {
-        Ok(sizes) => order_and_run(
-            &nodes[..sizes.nodes * NODE_WORDS],
-            &outputs[..sizes.outputs * OUTPUT_WORDS],
-            asked,
-            ready,
-            successors,
-            order,
-            values,
-            answers,
-            evaluated,
-        ),
-        Err(e) => {
-            clear_all(ready, successors, order);
-            refuse(e, values, answers, evaluated)
+        Ok(sizes) => {
+            let broken = Refusal::Broken;
+            if nodes.len() / NODE_WORDS < sizes.nodes {
+                return refuse_both(broken, ready, successors, order, values, answers, evaluated);
+            }
+            if outputs.len() / OUTPUT_WORDS < sizes.outputs {
+                return refuse_both(broken, ready, successors, order, values, answers, evaluated);
+            }
+            order_and_run(
+                &nodes[..sizes.nodes * NODE_WORDS],
+                &outputs[..sizes.outputs * OUTPUT_WORDS],
+                asked,
+                ready,
+                successors,
+                order,
+                values,
+                answers,
+                evaluated,
+            )
         }
+        Err(e) => refuse_both(e, ready, successors, order, values, answers, evaluated),
     }
 }

@@ -20,8 +20,8 @@ use Rattle.names.specs.declared.new_name.NewName.{NewName}
 use Rattle.reading.specs.Reading.{Places, Held, find}
 use Rattle.reading.specs.Holding.{outcome, entries_of}
 use Rattle.bench_invocations.specs.declared.invocation.Invocation.{Invocation}
-use Rattle.bench_invocations.specs.Invocations.{Invoked, arguments_of, parse_invocation}
-use Rattle.bench_invocations.specs.Walks.{invoked, NotedIn}
+use Rattle.bench_invocations.specs.Invocations.{Invoked, parse_invocation}
+use Rattle.bench_invocations.specs.Walks.{arguments_at, invoked, NotedIn}
 use Rattle.bench_gates.specs.declared.operations.Operation.{Operation}
 use Rattle.bench_gates.specs.declared.plans.Plan.{Plan}
 use Rattle.bench_gates.specs.Operations.{operation_of}
@@ -42,9 +42,9 @@ plan_refused t out e g q = record { is = q; fits = tt }
 
 module _ (t : List ℕ) (es : List Entry) (i : Invocation) where
   -- a gate's inputs, one of them without a driver
-  pub inputs_refused : (e : Refusal) → Err e ≡ outcome first_three (input_wires t es (arguments_of t i.inside)) → Err e ≡ gate_invoked t es (invoked t i)
+  pub inputs_refused : (e : Refusal) → Err e ≡ outcome first_three (input_wires t es (arguments_at t i.arguments)) → Err e ≡ gate_invoked t es (invoked t i)
   unfolding gate_invoked
-  inputs_refused e q = go (input_wires t es (arguments_of t i.inside)) q
+  inputs_refused e q = go (input_wires t es (arguments_at t i.arguments)) q
     where
       go : (r : Try (List ℕ)) → Err e ≡ outcome first_three r → Err e ≡ and_then r (λ xs. Ok (gate (operation_of (bytes_of t i.operation)) xs))
       go (Err g) h = let z : e ≡ g = cc in rw z
@@ -52,12 +52,12 @@ module _ (t : List ℕ) (es : List Entry) (i : Invocation) where
 
 pub plan_made : (t : NameTable) (i : Invocation) → NotedIn t.text.now i → (out : NewName) → IsNew t.text.now t.heads.now t.names.now t.count out
     → (o : Operation) → o ≡ operation_of (bytes_of t.text.now i.operation)
-    → (w : List ℕ) → Ok w ≡ outcome first_three (input_wires t.text.now (entries_of t) (arguments_of t.text.now i.inside))
-    → PlanIs t out.word (Ok (record { out = out; operation = o; inside = i.inside; inputs = i.count; wires = w })) (gate_invoked t.text.now (entries_of t) (invoked t.text.now i))
+    → (w : List ℕ) → Ok w ≡ outcome first_three (input_wires t.text.now (entries_of t) (arguments_at t.text.now i.arguments))
+    → PlanIs t out.word (Ok (record { out = out; operation = o; arguments = i.arguments; inputs = i.count; wires = w })) (gate_invoked t.text.now (entries_of t) (invoked t.text.now i))
 unfolding gate_invoked
 plan_made t i v out new o eo w q = record {
   is = rw eo;
-  fits = record { out_is = refl; new = new; driven = driven t.text.now (entries_of t) _ v.inside_in q v.count_is };
+  fits = record { out_is = refl; new = new; driven = driven t.text.now (entries_of t) _ v.arguments_in q v.count_is };
 }
 
 module _ (t : List ℕ) (out expression : Word) (es : List Entry) where
@@ -80,9 +80,9 @@ module _ (t : List ℕ) (out expression : Word) (es : List Entry) where
 
 module _ (t : List ℕ) (p : Places) (out expression : Word) (h : Held) where
   pub gate_on : (r : Plan) → planned t h.names r ≡ gate_of t out expression h.names → out ≡ r.out.word
-      → and_then (input_wires t h.names (arguments_of t r.inside)) (λ xs. lower_gate p r.out.word r.operation xs h) ≡ gate_line t p out expression h
+      → and_then (input_wires t h.names (arguments_at t r.arguments)) (λ xs. lower_gate p r.out.word r.operation xs h) ≡ gate_line t p out expression h
   unfolding gate_line
-  gate_on r q o = rw (← q, o) (go (input_wires t h.names (arguments_of t r.inside)))
+  gate_on r q o = rw (← q, o) (go (input_wires t h.names (arguments_at t r.arguments)))
     where
       go : (x : Try (List ℕ)) → and_then x (λ xs. lower_gate p r.out.word r.operation xs h)
           ≡ and_then (and_then x (λ xs. Ok (gate r.operation xs))) (λ g. lower_gate p r.out.word g.operation g.inputs h)
@@ -103,7 +103,7 @@ module _ (t : List ℕ) (l : Word) where
   name_malformed e q = rw (← q)
 
   -- what an invocation declares, by the first of its arguments and those after it
-  module _ (i : Invocation) (s : Ok (invoked t i) ≡ parse_invocation t l) (ws : List Word) (g : ws ≡ arguments_of t i.inside) where
+  module _ (i : Invocation) (s : Ok (invoked t i) ≡ parse_invocation t l) (ws : List Word) (g : ws ≡ arguments_at t i.arguments) where
     pub no_name : ws ≡ [] → Err WrongCount ≡ declared_in t l
     unfolding declared_in
     no_name e = rw (← s, ← g, e)

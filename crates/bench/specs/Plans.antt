@@ -11,7 +11,7 @@ use Rattle.names.specs.declared.NameTable.{NameTable}
 use Rattle.reading.specs.Reading.{Places, State, start, each, finish}
 use Rattle.reading.specs.declared.records.Reading.{Reading}
 use Rattle.reading.specs.Holding.{outcome, entries_of, NodesHold, WordsHold, AreasHold}
-use Rattle.bench_invocations.specs.Invocations.{arguments_of}
+use Rattle.bench_invocations.specs.Walks.{arguments_at}
 use Rattle.bench_gates.specs.declared.plans.Plan.{Plan}
 use Rattle.bench_gates.specs.Gates.{input_wires}
 use Rattle.bench_gates.specs.Walks.{Driven}
@@ -20,7 +20,7 @@ use Rattle.bench.specs.Bench.{Gate, Declared, read_line, bench_lines}
 
 -- the gate of a plan, its inputs looked up
 abbrev pub planned : List ℕ → List Entry → Plan → Try Gate
-planned t es p = and_then (input_wires t es (arguments_of t p.inside)) (λ xs. Ok (record { operation = p.operation; inputs = xs }))
+planned t es p = and_then (input_wires t es (arguments_at t p.arguments)) (λ xs. Ok (record { operation = p.operation; inputs = xs }))
 
 -- a plan for an output, a new name of the table, whose inputs have drivers
 pub record PlanFits (t : NameTable) (out : Word) (p : Plan) : Type 0 where

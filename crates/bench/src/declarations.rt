@@ -6,7 +6,7 @@ ghost use Rattle.bench.specs.Plans.{NamedIs, AreasHoldAfterLine};
 
 use crate::read::Bench;
 use bench_invocations::invocation::parse_bench_invocation;
-use bench_invocations::iterators::arguments_of;
+use bench_invocations::iterators::arguments_at;
 use circuit::refusals::Refusal;
 use reading::outputs::add_output;
 use reading::records::{Reading, add_input};
@@ -47,7 +47,7 @@ pub fn declared_name(text: &[u8], line: Word) -> Result<Named, Refusal>
     ensures { NamedIs text.now result (declared_in text.now line) }
 {
     let invocation = parse_bench_invocation(text, line)?;
-    let mut names = arguments_of(text, invocation.inside);
+    let mut names = arguments_at(text, invocation.arguments);
     let (Some(name), None) = (names.next(), names.next()) else {
         return Err(Refusal::WrongCount);
     };

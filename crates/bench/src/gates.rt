@@ -26,11 +26,11 @@ pub fn plan_inputs(table: &NameTable, out: NewName, invocation: Invocation) -> R
     ensures { let t = table.now.text.now in
         PlanIs table.now out.word result (gate_invoked t (entries_of table.now) (invoked t invocation)) }
 {
-    let wires = input_wires(table, invocation.inside)?;
+    let wires = input_wires(table, invocation.arguments)?;
     Ok(Plan {
         out,
         operation: operation_of(invocation.operation.bytes(table.text)),
-        inside: invocation.inside,
+        arguments: invocation.arguments,
         inputs: invocation.count,
         wires,
     })

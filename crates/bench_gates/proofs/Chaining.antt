@@ -26,8 +26,7 @@ use Rattle.names.specs.Names.{Entry}
 use Rattle.reading.specs.Reading.{Places, places_in, find, driver, next_wire, add_node}
 use Rattle.reading.specs.Holding.{outcome, NodesHold}
 use Rattle.bench_invocations.specs.declared.arguments.Arguments.{Arguments}
-use Rattle.bench_invocations.specs.Invocations.{arguments_of}
-use Rattle.bench_invocations.specs.Walks.{arguments_left, GivesArgument}
+use Rattle.bench_invocations.specs.Walks.{arguments_at, arguments_left, GivesArgument}
 use Rattle.bench_invocations.proofs.Inside.{Inside, arguments_given, arguments_inside}
 use Rattle.bench_gates.specs.declared.plans.Plan.{Plan}
 use Rattle.bench_gates.specs.declared.chains.Chained.{Chained}
@@ -69,16 +68,16 @@ module _ (t : List ℕ) (es : List Entry) (q : Plan) (o : Binary) (p : Places) w
       (rw i.first_is (each_then (add_node p.nodes (step_cell q.out.word o k x y) ns) _ _ (λ ms. words_made (suc k) (next_wire ns) i.wire ws i.rest ms i.rest_are)))
 
   -- what the wires of a gate of two inputs or more give, from the first two on
-  pub gate_made : Driven t es q → 2 ≤ q.inputs → (ns : List BoolNode) → chain_words t p q.out.word o 1 (get_or q.wires 0 0) (get_or q.wires 1 0) (drop 2 (arguments_of t q.inside)) (with_nodes ns es)
-      ≡ and_then (input_wires t es (arguments_of t q.inside)) (λ xs. chained p q.out.word o xs (with_nodes ns es))
+  pub gate_made : Driven t es q → 2 ≤ q.inputs → (ns : List BoolNode) → chain_words t p q.out.word o 1 (get_or q.wires 0 0) (get_or q.wires 1 0) (drop 2 (arguments_at t q.arguments)) (with_nodes ns es)
+      ≡ and_then (input_wires t es (arguments_at t q.arguments)) (λ xs. chained p q.out.word o xs (with_nodes ns es))
   unfolding chained
-  gate_made d two ns = rw (d.are, d.firsts) (go d.wires d.are (omega (arith, two, d.count_is, inputs-length t es (arguments_of t q.inside) d.wires d.are)))
+  gate_made d two ns = rw (d.are, d.firsts) (go d.wires d.are (omega (arith, two, d.count_is, inputs-length t es (arguments_at t q.arguments) d.wires d.are)))
     where
-      go : (xs : List ℕ) → input_wires t es (arguments_of t q.inside) ≡ Ok xs → 2 ≤ length xs
-          → chain_words t p q.out.word o 1 (get_or xs 0 0) (get_or xs 1 0) (drop 2 (arguments_of t q.inside)) (with_nodes ns es) ≡ chained p q.out.word o xs (with_nodes ns es)
+      go : (xs : List ℕ) → input_wires t es (arguments_at t q.arguments) ≡ Ok xs → 2 ≤ length xs
+          → chain_words t p q.out.word o 1 (get_or xs 0 0) (get_or xs 1 0) (drop 2 (arguments_at t q.arguments)) (with_nodes ns es) ≡ chained p q.out.word o xs (with_nodes ns es)
       go [] e l = absurd (omega arith)
       go (x ∷ []) e l = absurd (omega arith)
-      go (x ∷ y ∷ zs) e l = words_made 1 x y (drop 2 (arguments_of t q.inside)) zs ns (inputs_drop t es 2 (arguments_of t q.inside) (x ∷ y ∷ zs) e)
+      go (x ∷ y ∷ zs) e l = words_made 1 x y (drop 2 (arguments_at t q.arguments)) zs ns (inputs_drop t es 2 (arguments_at t q.arguments) (x ∷ y ∷ zs) e)
 
 -- ---- a walk over the inputs after the second, which makes a step for each
 
@@ -110,7 +109,7 @@ pub record Stepping (t : List ℕ) (es : List Entry) (q : Plan) (o : Binary) (wo
   pub given : Gives s coming
   pub stand : All (Inside t) coming
   pub kept : NodesHold ns c.nodes
-  pub same : (m l : ℕ) → rest_of t es q o (places_in words m l) (n + 1) ns c coming ≡ rest_of t es q o (places_in words m l) 1 old first (drop 2 (arguments_of t q.inside))
+  pub same : (m l : ℕ) → rest_of t es q o (places_in words m l) (n + 1) ns c coming ≡ rest_of t es q o (places_in words m l) 1 old first (drop 2 (arguments_at t q.arguments))
 
 all_drop : (t : List ℕ) (n : ℕ) (ws : List Word) → All (Inside t) ws → All (Inside t) (drop n ws)
 all_drop t zero ws a = a
@@ -118,12 +117,12 @@ all_drop t (suc n) [] a = tt
 all_drop t (suc n) (w ∷ ws) a = all_drop t n ws a.1
 
 module _ {t : List ℕ} {es : List Entry} {q : Plan} {o : Binary} {words : ℕ} {old : List ℕ} {first : Chained} where
-  pub stepping_start : Inside t q.inside → NodesHold old first.nodes → (a : Arguments) → arguments_left a ≡ arguments_of t q.inside → (s : Skip Arguments) → skip_source s ≡ a → skip_count s ≡ 2
+  pub stepping_start : q.arguments.end ≤ length t → NodesHold old first.nodes → (a : Arguments) → arguments_left a ≡ arguments_at t q.arguments → (s : Skip Arguments) → skip_source s ≡ a → skip_count s ≡ 2
       → Stepping t es q o words old first s 0 old first
   stepping_start i k a e s f n = record {
-    coming = drop 2 (arguments_of t q.inside);
+    coming = drop 2 (arguments_at t q.arguments);
     given = subst (λ (ws : List Word). Gives s (drop 2 ws)) (ap arguments_left f ∙ e) (YieldsList-from_skip 2 (arguments_given (skip_source s)) n);
-    stand = all_drop t 2 (arguments_of t q.inside) (arguments_inside t q.inside i);
+    stand = all_drop t 2 (arguments_at t q.arguments) (arguments_inside t q.arguments i);
     kept = k;
     same = λ m l. refl;
   }

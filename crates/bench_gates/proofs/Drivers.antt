@@ -17,7 +17,7 @@ use Rattle.text.specs.declared.words.Word.{Word}
 use Rattle.names.specs.Names.{Entry, lookup}
 use Rattle.reading.specs.Reading.{find, driver}
 use Rattle.reading.specs.Holding.{outcome}
-use Rattle.bench_invocations.specs.Invocations.{arguments_of}
+use Rattle.bench_invocations.specs.Walks.{arguments_at}
 use Rattle.bench_gates.specs.Gates.{input_wires}
 use Rattle.bench_gates.specs.declared.plans.Plan.{Plan}
 use Rattle.bench_gates.specs.Walks.{first_three, Driven}
@@ -81,12 +81,12 @@ module _ (t : List ℕ) (es : List Entry) where
       rw e.all_are (inputs_drop n ws e.rest e.rest_are)
 
 -- the wires of the first three inputs say that each input of a plan has a driver
-pub driven : (t : List ℕ) (es : List Entry) (p : Plan) → p.inside.start + p.inside.len ≤ length t → Ok p.wires ≡ outcome first_three (input_wires t es (arguments_of t p.inside)) → p.inputs ≡ length (arguments_of t p.inside) → Driven t es p
-driven t es p i q e = go (input_wires t es (arguments_of t p.inside)) refl q
+pub driven : (t : List ℕ) (es : List Entry) (p : Plan) → p.arguments.end ≤ length t → Ok p.wires ≡ outcome first_three (input_wires t es (arguments_at t p.arguments)) → p.inputs ≡ length (arguments_at t p.arguments) → Driven t es p
+driven t es p i q e = go (input_wires t es (arguments_at t p.arguments)) refl q
   where
-    go : (r : Try (List ℕ)) → input_wires t es (arguments_of t p.inside) ≡ r → Ok p.wires ≡ outcome first_three r → Driven t es p
+    go : (r : Try (List ℕ)) → input_wires t es (arguments_at t p.arguments) ≡ r → Ok p.wires ≡ outcome first_three r → Driven t es p
     go (Err f) s h = absurd (no_yes (sym h))
-    go (Ok xs) s h = record { wires = xs; are = s; count_is = e; firsts = yes_same h; inside_in = i }
+    go (Ok xs) s h = record { wires = xs; are = s; count_is = e; firsts = yes_same h; arguments_in = i }
 
 -- ---- a walk over the inputs: the wires so far
 

@@ -13,7 +13,7 @@ use Rattle.circuit.specs.Refusals.{Try, and_then}
 use Rattle.text.specs.declared.words.Word.{Word}
 use Rattle.names.specs.Names.{Entry}
 use Rattle.reading.specs.Reading.{Places, Held, add_name, with_names, add_alias, add_named}
-use Rattle.bench_invocations.specs.Invocations.{arguments_of}
+use Rattle.bench_invocations.specs.Walks.{arguments_at}
 use Rattle.bench_gates.specs.declared.operations.Operation.TheVariants.{Buf, Not, Chain, Other}
 use Rattle.bench_gates.specs.declared.operations.Binary.{Binary}
 use Rattle.bench_gates.specs.declared.plans.Plan.{Plan}
@@ -43,11 +43,11 @@ buffer p out h (x ∷ y ∷ ys) = refl
 
 module _ (t : List ℕ) (es : List Entry) (q : Plan) (d : Driven t es q) where
   number : length d.wires ≡ q.inputs
-  number = inputs-length t es (arguments_of t q.inside) d.wires d.are ∙ sym d.count_is
+  number = inputs-length t es (arguments_at t q.arguments) d.wires d.are ∙ sym d.count_is
 
   -- what is tried with the wires of all inputs
   abbrev With : {B : Type 0} → (List ℕ → Try B) → Try B
-  With f = and_then (input_wires t es (arguments_of t q.inside)) f
+  With f = and_then (input_wires t es (arguments_at t q.arguments)) f
 
   -- what one input gives, by its kept wire
   pub one_kept : {B : Type 0} (f : ℕ → Try B) → if_one q.inputs (f (get_or q.wires 0 0)) ≡ With (λ xs. and_then (only_one xs) f)

@@ -11,7 +11,7 @@ ghost use Rattle.bench_gates.specs.Walks.{StepsAre};
 use crate::inputs::argument_wire;
 use crate::operations::Binary;
 use crate::plans::Plan;
-use bench_invocations::iterators::arguments_of;
+use bench_invocations::iterators::arguments_at;
 use circuit::records::{Name, NodeNumber, node_word};
 use circuit::refusals::Refusal;
 use names::NameTable;
@@ -91,12 +91,12 @@ pub fn chain_steps(
     nodes: &mut [usize],
 ) -> Result<Chained, Refusal>
     requires area { NodesHold nodes.old first.nodes }
-    requires inside_in_text { plan.inside.start + plan.inside.len ≤ length table.now.text.now }
+    requires arguments_in_text { plan.arguments.end ≤ length table.now.text.now }
     ensures { StepsAre table.now.text.now (entries_of table.now) plan operation (length nodes.old)
         nodes.old first nodes.new result }
 {
     let mut chained = first;
-    for (k, argument) in arguments_of(table.text, plan.inside).skip(2).enumerate() {
+    for (k, argument) in arguments_at(table.text, plan.arguments).skip(2).enumerate() {
         let wire = argument_wire(table, argument)?;
         chained = chain_step(plan.out.word, operation, k + 1, chained, wire, nodes)?;
     }

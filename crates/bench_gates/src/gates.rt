@@ -65,7 +65,7 @@ pub fn chain_many(
 ) -> Result<Counts, Refusal>
     requires areas { NamedNodesHold text.now heads.old nodes.old names.old counts }
     requires new { IsNew text.now heads.old names.old counts.names plan.out }
-    requires inside_in_text { plan.inside.start + plan.inside.len ≤ length text.now }
+    requires arguments_in_text { plan.arguments.end ≤ length text.now }
     ensures areas { NamedNodesHoldAfter text.now heads.new nodes.new names.new result }
     ensures step { HeldStep (chain_planned text.now plan operation)
         nodes.old names.old counts nodes.new names.new result }

@@ -2,12 +2,13 @@
 ghost use Rattle.std.specs.Prelude.{◌≡◌, true, [], ◌+◌, ◌≤◌, length};
 ghost use Rattle.reading.specs.Reading.{find, driver};
 ghost use Rattle.reading.specs.Holding.{outcome, entries_of, WordSearch};
-ghost use Rattle.bench_invocations.specs.Invocations.{arguments_of};
+ghost use Rattle.bench_invocations.specs.Walks.{arguments_at};
 ghost use Rattle.bench_gates.specs.Gates.{input_wires};
 ghost use Rattle.bench_gates.specs.Walks.{first_three};
 
 use crate::plans::KEPT;
-use bench_invocations::iterators::arguments_of;
+use bench_invocations::arguments::ArgumentPlaces;
+use bench_invocations::iterators::arguments_at;
 use circuit::refusals::Refusal;
 use names::NameTable;
 use names::new_name::NewName;
@@ -60,16 +61,17 @@ pub fn argument_wire(table: &NameTable, argument: Word) -> Result<usize, Refusal
     find_wire(table, argument).ok_or(Refusal::NoDriver)
 }
 
-/// The wires of the first `KEPT` inputs in a stretch, 0 where there is none, from which a gate of two or three is made;
+/// The wires of the first `KEPT` inputs at places of the text, 0 where there is none, from which a gate of two or three is made;
 /// `NoDriver` at the first input that has none.
 #[tactic(auto, using(crate::proofs::Drivers::walking_first, crate::proofs::Drivers::walking_later))]
-pub fn input_wires(table: &NameTable, inside: Word) -> Result<[usize; KEPT], Refusal>
-    requires { inside.start + inside.len ≤ length table.now.text.now }
+pub fn input_wires(table: &NameTable, arguments: ArgumentPlaces) -> Result<[usize; KEPT], Refusal>
+    requires { arguments.end ≤ length table.now.text.now }
     ensures { let t = table.now.text.now in
-        result ≡ outcome first_three (input_wires t (entries_of table.now) (arguments_of t inside)) }
+        result ≡ outcome first_three
+        (input_wires t (entries_of table.now) (arguments_at t arguments)) }
 {
     let mut wires = [0; KEPT];
-    for (n, argument) in arguments_of(table.text, inside).enumerate() {
+    for (n, argument) in arguments_at(table.text, arguments).enumerate() {
         let wire = argument_wire(table, argument)?;
         if n < KEPT {
             wires[n] = wire;

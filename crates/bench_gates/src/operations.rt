@@ -7,6 +7,11 @@ use text::bytes::is_named;
 /// The table of NOT: on where its one input is off.
 pub const NOT_TABLE: usize = 1;
 
+/// The table that the definitions mean where they name it. A law: it does nothing when it runs.
+pub fn inverter_table()
+    ensures { NOT_TABLE ≡ 1 }
+{}
+
 /// The operations of two or more inputs.
 #[derive(Clone, Copy, Debug, PartialEq, Eq)]
 pub enum Binary {

@@ -7,6 +7,7 @@ use Rattle.circuit.specs.Refusals.{Try, need}
 use Rattle.text.specs.Words.{bytes_of, between}
 use Rattle.text.specs.declared.words.Word.{Word}
 use Rattle.reading.specs.Holding.{outcome}
+use Rattle.bench_invocations.specs.declared.arguments.ArgumentPlaces.{ArgumentPlaces}
 use Rattle.bench_invocations.specs.declared.arguments.Arguments.{Arguments}
 use Rattle.bench_invocations.specs.declared.invocation.Invocation.{Invocation}
 use Rattle.bench_invocations.specs.Invocations.{Invoked, up_to_last, trimmed_parts, arguments_of, none_empty}
@@ -20,6 +21,10 @@ last_place x t w =
 -- the arguments from a place on, up to an end; none past the end
 unfoldable pub arguments_from : List ℕ → ℕ → ℕ → List Word
 arguments_from t at end = cond (leb at end) (trimmed_parts t (between at end)) []
+
+-- the arguments at places of a text
+abbrev pub arguments_at : List ℕ → ArgumentPlaces → List Word
+arguments_at t p = arguments_from t p.at p.end
 
 -- the arguments that an iterator has yet to give
 abbrev pub arguments_left : Arguments → List Word
@@ -38,13 +43,13 @@ counted ws n = need (none_empty ws) Malformed (Ok (n + length ws))
 
 -- an invocation as the code notes it
 abbrev pub invoked : List ℕ → Invocation → Invoked
-invoked t v = record { operation = v.operation; arguments = arguments_of t v.inside }
+invoked t v = record { operation = v.operation; arguments = arguments_at t v.arguments }
 
 -- what is noted stands in the text, with as many arguments as noted
 pub record NotedIn (t : List ℕ) (v : Invocation) : Type 0 where
   pub operation_in : v.operation.start + v.operation.len ≤ length t
-  pub inside_in : v.inside.start + v.inside.len ≤ length t
-  pub count_is : v.count ≡ length (arguments_of t v.inside)
+  pub arguments_in : v.arguments.end ≤ length t
+  pub count_is : v.count ≡ length (arguments_at t v.arguments)
 
 -- an invocation of the text, or the refusal
 pub record InvocationIs (t : List ℕ) (r : Try Invocation) (i : Try Invoked) : Type 0 where

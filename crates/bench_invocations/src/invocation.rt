@@ -3,6 +3,7 @@ ghost use Rattle.std.specs.Prelude.{◌≡◌, ◌+◌, ◌≤◌, length};
 ghost use Rattle.bench_invocations.specs.Invocations.{parse_invocation};
 ghost use Rattle.bench_invocations.specs.Walks.{last_place, InvocationIs, InvokedIs};
 
+use crate::arguments::ArgumentPlaces;
 use crate::iterators::{arguments_of, count_arguments};
 use circuit::refusals::Refusal;
 use text::bytes::find_byte;
@@ -17,11 +18,11 @@ pub fn find_last_byte(text: &[u8], x: u8, word: Word) -> Option<usize>
     Some(word.start + last)
 }
 
-/// The operation, what stands between the parentheses, and how many arguments that holds: they are counted where an empty one is refused, and not again.
+/// The operation, where the arguments between the parentheses stand, and how many there are: they are counted where an empty one is refused, and not again.
 #[derive(Clone, Copy)]
 pub struct Invocation {
     pub operation: Word,
-    pub inside: Word,
+    pub arguments: ArgumentPlaces,
     pub count: usize,
 }
 
@@ -34,10 +35,14 @@ pub fn invocation_arguments(
     requires { (operation.start + operation.len ≤ length text.now) × (inside.start + inside.len ≤ length text.now) }
     ensures { InvokedIs text.now operation inside result }
 {
-    let count = count_arguments(arguments_of(text, inside))?;
+    let arguments = arguments_of(text, inside);
+    let count = count_arguments(arguments)?;
     Ok(Invocation {
         operation,
-        inside,
+        arguments: ArgumentPlaces {
+            at: arguments.at,
+            end: arguments.end,
+        },
         count,
     })
 }

@@ -1,9 +1,9 @@
 // The arguments of an invocation, one after the other.
 ghost use Rattle.std.specs.Prelude.{◌≡◌, ◌+◌, ◌≤◌, length};
 ghost use Rattle.bench_invocations.specs.Invocations.{arguments_of};
-ghost use Rattle.bench_invocations.specs.Walks.{arguments_left, GivesArgument, counted};
+ghost use Rattle.bench_invocations.specs.Walks.{arguments_at, arguments_left, GivesArgument, counted};
 
-use crate::arguments::Arguments;
+use crate::arguments::{ArgumentPlaces, Arguments};
 use circuit::refusals::Refusal;
 use text::bytes::skip_to_far;
 use text::words::{Word, trim};
@@ -18,6 +18,19 @@ pub fn arguments_of(text: &[u8], word: Word) -> Arguments
     let blank = trim(text, word).len == 0;
     let at = if blank { end + 1 } else { word.start };
     Arguments { text, at, end }
+}
+
+/// The arguments at places of a text, as an iterator gives them: blank places mean one empty argument.
+pub fn arguments_at(text: &[u8], places: ArgumentPlaces) -> Arguments
+    requires { places.end ≤ length text.now }
+    ensures same_text { result.text.now ≡ text.now }
+    ensures all { arguments_left result ≡ arguments_at text.now places }
+{
+    Arguments {
+        text,
+        at: places.at,
+        end: places.end,
+    }
 }
 
 impl<'a> Iterator for Arguments<'a> {

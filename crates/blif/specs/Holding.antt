@@ -9,7 +9,6 @@ use Rattle.names.specs.Names.{Entry}
 use Rattle.names.specs.Chains.{IsNew}
 use Rattle.names.specs.declared.NameTable.{NameTable}
 use Rattle.cover.specs.declared.directives.Directive.{Directive}
-use Rattle.cover.specs.Rows.{rows_from}
 use Rattle.reading.specs.Reading.{Places, State, start, find, driver, finish}
 use Rattle.reading.specs.Holding.{outcome}
 use Rattle.blif.specs.declared.planned.Planned.{Planned}
@@ -27,9 +26,9 @@ pub record PlanIs (t : NameTable) (r : Try Planned) (o : Try Plan) : Type 0 wher
   pub is : outcome planned r ≡ o
   pub new : IfOk r (λ p. IsNew t.text.now t.heads.now t.names.now t.count p.out)
 
--- a directive with the stretch after it, and the rows from a place on
-abbrev pub directive_at : List ℕ → Directive → Word → ℕ → Places → State → Try State
-directive_at t directive line next p s = directive_step t p directive (line_words t line) (rows_from t next) s
+-- a directive with the stretch after it, and the rows after that
+abbrev pub directive_at : List ℕ → Directive → Word → List (List Word) → Places → State → Try State
+directive_at t directive line rows p s = directive_step t p directive (line_words t line) rows s
 
 -- what the lines of a joined text add to nothing
 abbrev pub blif_reads : List ℕ → Places → Try State

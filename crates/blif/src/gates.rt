@@ -6,7 +6,7 @@ ghost use Rattle.circuit.specs.declared.records.TheConstants.{WIRES};
 ghost use Rattle.text.specs.Lines.{line_words};
 ghost use Rattle.names.specs.Chains.{Table, IsNew};
 ghost use Rattle.text.specs.declared.words.Word.{Word};
-ghost use Rattle.cover.specs.Rows.{rows_from};
+ghost use Rattle.cover.specs.Rows.{rows_left, RowsOf};
 ghost use Rattle.reading.specs.Reading.{add_name};
 ghost use Rattle.reading.specs.Holding.{outcome, entries_of, NamedNodesHold, NamedNodesHoldAfter, NamesStep, HeldStep};
 ghost use Rattle.blif.specs.Blif.{drivers, gate, plan, names_line};
@@ -16,7 +16,7 @@ use crate::planned::Planned;
 use circuit::records::WIRES;
 use circuit::refusals::Refusal;
 use cover::gates::gate_words;
-use cover::lines::{line_words, rows_from};
+use cover::lines::{Rows, line_words};
 use cover::rows::parse_cover;
 use names::NameTable;
 use names::new_name::NewName;
@@ -25,6 +25,11 @@ use text::words::Word;
 
 /// The table of one input whose value is the input's.
 pub const BUFFER: usize = 2;
+
+/// The table that the definitions mean where they name it. A law: it does nothing when it runs.
+pub fn buffer_table()
+    ensures { BUFFER ≡ 2 }
+{}
 
 /// The wire of an input word; `NoDriver` if it has none.
 #[tactic(auto, unfolding(reading::specs::Reading::find))]
@@ -49,13 +54,15 @@ pub fn drivers(table: &NameTable, inputs: &[Word]) -> Result<[usize; WIRES], Ref
     Ok(wires)
 }
 
-/// The gate of the words after `.names`, with the rows from `next` on: `Malformed` without a word, `DefinedBefore`, `WrongCount`,
+/// The gate of the words after `.names`, with the rows after it: `Malformed` without a word, `DefinedBefore`, `WrongCount`,
 /// `NoDriver`, `BadRow`.
 #[tactic(auto, using(crate::proofs::Plans::plan_none, crate::proofs::Plans::plan_known, crate::proofs::Plans::plan_many))]
-pub fn plan_gate(table: &NameTable, line: Word, next: usize) -> Result<Planned, Refusal>
-    requires { line.start + line.len ≤ length table.now.text.now }
+pub fn plan_gate(table: &NameTable, line: Word, rows: Rows) -> Result<Planned, Refusal>
+    requires line_in_text { line.start + line.len ≤ length table.now.text.now }
+    requires rows_in_text { RowsOf table.now.text.now rows }
     ensures { let t = table.now.text.now in
-        PlanIs table.now result (plan t (line_words t line) (rows_from t next) (entries_of table.now)) }
+        PlanIs table.now result
+        (plan t (line_words t line) (rows_left rows.entry) (entries_of table.now)) }
 {
     let gate = gate_words(line_words(table.text, line)).ok_or(Refusal::Malformed)?;
     let Err(out) = table.search(gate.out) else {
@@ -63,7 +70,6 @@ pub fn plan_gate(table: &NameTable, line: Word, next: usize) -> Result<Planned, 
     };
     let count = gate.count.ok_or(Refusal::WrongCount)?;
     let wires = drivers(table, &gate.inputs[..count])?;
-    let rows = rows_from(table.text, next);
     let truth_table = parse_cover(rows, count).ok_or(Refusal::BadRow)?;
     Ok(Planned {
         out,
@@ -122,12 +128,12 @@ pub fn put_gate(
     }
 }
 
-/// `.names`, with the stretch after it, and the rows from `next` on.
+/// `.names`, with the stretch after it, and the rows after that.
 #[tactic(auto, unfolding(crate::specs::Blif::names_line))]
 pub fn names_line(
     text: &[u8],
     line: Word,
-    next: usize,
+    rows: Rows,
     counts: Counts,
     heads: &mut [usize; 256],
     nodes: &mut [usize],
@@ -135,8 +141,10 @@ pub fn names_line(
 ) -> Result<Counts, Refusal>
     requires areas { NamedNodesHold text.now heads.old nodes.old names.old counts }
     requires line_in_text { line.start + line.len ≤ length text.now }
+    requires rows_in_text { RowsOf text.now rows }
     ensures areas { NamedNodesHoldAfter text.now heads.new nodes.new names.new result }
-    ensures step { HeldStep (λ p. names_line text.now p (line_words text.now line) (rows_from text.now next))
+    ensures step { HeldStep
+        (λ p. names_line text.now p (line_words text.now line) (rows_left rows.entry))
         nodes.old names.old counts nodes.new names.new result }
 {
     let table = NameTable {
@@ -145,6 +153,6 @@ pub fn names_line(
         names,
         count: counts.names,
     };
-    let p = plan_gate(&table, line, next)?;
+    let p = plan_gate(&table, line, rows)?;
     put_gate(text, p, counts, heads, nodes, names)
 }

@@ -1,5 +1,6 @@
 // The lines of a joined text.
 ghost use Rattle.std.specs.Prelude.{◌+◌, ◌≤◌, length};
+ghost use Rattle.cover.specs.Rows.{rows_left, RowsOf};
 ghost use Rattle.reading.specs.Holding.{AreasHold, AreasHoldAfter, StateStep};
 ghost use Rattle.blif.specs.Blif.{blif_lines};
 ghost use Rattle.blif.specs.Holding.{directive_at, blif_reads, blif_ends};
@@ -9,19 +10,19 @@ use crate::read::Blif;
 use crate::words::{input_words, output_words};
 use circuit::refusals::Refusal;
 use cover::directives::Directive;
-use cover::lines::{directive_line, line_words};
+use cover::lines::{Rows, directive_line, line_words, rows_from};
 use reading::format::Format;
 use reading::records::{Counts, Reading};
 use text::iterators::lines_of;
 use text::words::Word;
 
-/// A directive with the stretch after it, and the rows from `next` on.
+/// A directive with the stretch after it, and the rows after that.
 #[tactic(auto, unfolding(crate::specs::Blif::directive_step))]
 pub fn read_directive(
     text: &[u8],
     directive: Directive,
     line: Word,
-    next: usize,
+    rows: Rows,
     read: Reading,
     heads: &mut [usize; 256],
     nodes: &mut [usize],
@@ -30,8 +31,9 @@ pub fn read_directive(
 ) -> Result<Reading, Refusal>
     requires areas { AreasHold text.now heads.old nodes.old names.old outputs.old read }
     requires line_in_text { line.start + line.len ≤ length text.now }
+    requires rows_in_text { RowsOf text.now rows }
     ensures areas { AreasHoldAfter text.now heads.new nodes.new names.new outputs.new result }
-    ensures step { StateStep (directive_at text.now directive line next)
+    ensures step { StateStep (directive_at text.now directive line (rows_left rows.entry))
         nodes.old names.old outputs.old read nodes.new names.new outputs.new result }
 {
     match directive {
@@ -45,7 +47,7 @@ pub fn read_directive(
             Ok(Reading { outputs, ..read })
         }
         Directive::Names => {
-            let counts = names_line(text, line, next, read.counts, heads, nodes, names)?;
+            let counts = names_line(text, line, rows, read.counts, heads, nodes, names)?;
             Ok(Reading { counts, ..read })
         }
         Directive::Other => Err(Refusal::Unknown),
@@ -78,8 +80,9 @@ impl Format for Blif {
         while let Some(line) = lines.next() {
             match directive_line(text, line) {
                 Some((directive, rest)) => {
+                    let rows = rows_from(text, lines.at);
                     read = read_directive(
-                        text, directive, rest, lines.at, read, heads, nodes, names, outputs,
+                        text, directive, rest, rows, read, heads, nodes, names, outputs,
                     )?;
                     row = directive.takes_rows();
                 }

@@ -20,7 +20,7 @@ pub fn read_number(word: &[u8]) -> Result<usize, Refusal>
 pub fn arity_invalid(words: LineWords, least: usize) -> Refusal
     ensures { result ≡ invalid_arity least (words_left words.entry) }
 {
-    if count_words(words) < least {
+    if least > 0 && count_words(words) < least {
         Refusal::Malformed
     } else {
         Refusal::NotNumber

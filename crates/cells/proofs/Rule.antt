@@ -1,4 +1,4 @@
--- The laws of the cell rule: without unknowns it is the table's entry, and more that is known changes no known answer.
+-- The laws of the cell rule: without unknowns it is the table's entry, more that is known changes no known answer, and one wire answers as two do.
 -- Assumes nothing.
 use mathlib.Core.Path.{◌≡◌, refl, sym, ap, ◌∙◌, subst}
 use mathlib.Core.List.{List, [], ◌∷◌, ◌++◌, map}
@@ -107,3 +107,9 @@ rule_known t vs h = ap (λ (l : List ℕ). agreed (map (entry t) l)) (one_fillin
 
 pub entry-bit : (t j : ℕ) → entry t j < 2
 entry-bit t j = bit_small t j
+
+-- a cell of one wire answers what a cell of two with the same table answers whose first value is 0
+pub rule_one : (t v : ℕ) → cell_rule t (0 ∷ v ∷ []) ≡ cell_rule t (v ∷ [])
+rule_one t zero = refl
+rule_one t (suc zero) = refl
+rule_one t (suc (suc v)) = refl

@@ -4,11 +4,11 @@ use Rattle.std.specs.Prelude.{cond, Err, Ok}
 use mathlib.Core.Path.{◌≡◌, refl, sym, ap, ap₂, ◌∙◌, subst}
 use mathlib.Core.List.{List, [], ◌∷◌}
 use mathlib.Core.Bool.{Bool, true, false, ◌||◌}
-use Prim.Native.Nat.{ℕ, zero, suc, ◌+◌, ◌-◌, ◌/◌, ◌%◌, ◌≤◌, ◌<◌}
+use Prim.Native.Nat.{ℕ, zero, suc, ◌+◌, ◌-◌, ◌/◌, ◌%◌, ◌≤◌, ◌<◌, min}
 use native.Mathlib.Nat.{zero-add}
 use native.Mathlib.Numerals.{add-one}
 use native.Mathlib.Omega.{arith}
-use borrow.Author.Tests.{eq-eqb, ne_eqb, lt-leb, leb-false}
+use borrow.Author.Tests.{eq-eqb, ne_eqb, le-leb, lt-leb, leb-true, leb-false}
 use lib.ListN.{length, get_or, take, drop, drop_of_length-le}
 use lib.Seq.{drop-cons}
 use Rattle.laws.specs.Areas.{up_from}
@@ -69,6 +69,30 @@ module _ (m i : ℕ) (inside : i ≤ m) (ws : List BoolWire) (k : ℕ) where
   pub wire_passed : k < length ws → not_below i (get_or ws k no_wire) ≡ false → check_wires m i (drop k ws) ≡ check_wires m i (drop (k + 1) ws)
   unfolding check_wires
   wire_passed h e = rw (drop-cons ws k no_wire h, below_more i m inside (get_or ws k no_wire) e, e, add-one k)
+
+-- the same of any number i, one past the circuit too: an earlier node of the circuit is below i and below m
+late_inside : (m i : ℕ) (w : BoolWire) → not_below (min i m) w ≡ true → not_below m w ≡ false → not_below i w ≡ true
+late_inside m i (Const b) e f = e
+late_inside m i (Node n) e f = le-leb i n.0 (omega (arith, leb-true (min i m) n.0 e, leb-false m n.0 f))
+
+module _ (m i : ℕ) (ws : List BoolWire) (k : ℕ) (h : k < length ws) where
+  pub wire_refused : not_below (min i m) (get_or ws k no_wire) ≡ true → check_wires m i (drop k ws) ≡ Err (wire_refusal m (get_or ws k no_wire))
+  unfolding check_wires
+  wire_refused e = rw (drop-cons ws k no_wire h) (go (not_below m w) refl)
+    where
+      w : BoolWire
+      w = get_or ws k no_wire
+
+      go : (t : Bool) → not_below m w ≡ t
+          → ◌≡◌ {A = Checked} (cond t (Err Broken) (cond (not_below i w) (Err NotEarlier) (check_wires m i (drop (suc k) ws)))) (Err (cond t Broken NotEarlier))
+      go true f = refl
+      go false f = rw (late_inside m i w e f)
+
+  pub wire_taken : not_below (min i m) (get_or ws k no_wire) ≡ false → check_wires m i (drop k ws) ≡ check_wires m i (drop (k + 1) ws)
+  unfolding check_wires
+  wire_taken e =
+      let w = get_or ws k no_wire in
+      rw (drop-cons ws k no_wire h, below_more (min i m) m (omega arith) w e, below_more (min i m) i (omega arith) w e, add-one k)
 
 pub wires_passed : (m i : ℕ) (ws : List BoolWire) (k : ℕ) → length ws ≤ k → check_wires m i (drop k ws) ≡ Ok tt
 unfolding check_wires

@@ -1,7 +1,7 @@
 // The circuit rules and the circuit check.
 ghost use Rattle.std.specs.Prelude.{◌≡◌, ◌+◌, ◌*◌, ◌^◌, ◌≤◌, leb, length};
 ghost use Rattle.circuit.specs.Records.{wires_of, nodes_of, output_wires};
-ghost use Rattle.circuit.specs.Check.{not_below, some_not_below, record_broken, wire_refusal, check_nodes, node_broken, some_broken, whole, topological_fault, records_fault};
+ghost use Rattle.circuit.specs.Check.{not_below, some_not_below, record_broken, wire_refusal, check_node, check_nodes, node_broken, some_broken, whole, topological_fault, records_fault};
 
 use crate::checked::CheckedCircuit;
 use crate::nodes::{Nodes, Outputs};
@@ -48,6 +48,24 @@ pub fn wire_refusal(w: BoolWire, m: usize) -> Refusal
     } else {
         Refusal::NotEarlier
     }
+}
+
+/// Node i of a circuit of m: Broken where its record breaks a rule; else its wires in turn, and the first that is no earlier node's is refused, Broken where
+/// it is no node's of the circuit at all, NotEarlier where it is node i's or a later one's.
+pub fn check_node(n: BoolNode, m: usize, i: usize) -> Result<(), Refusal>
+    ensures { result ≡ check_node m i n }
+{
+    if record_broken(n) {
+        return Err(Refusal::Broken);
+    }
+    let before = i.min(m);
+    for k in 0..wire_count(n) {
+        let w = wire_at(n, k);
+        if not_below(w, before) {
+            return Err(wire_refusal(w, m));
+        }
+    }
+    Ok(())
 }
 
 /// The nodes and their wires in turn: both scans are left at the first broken record or wire that is not earlier.

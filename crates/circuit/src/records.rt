@@ -39,6 +39,14 @@ pub const OUTPUT_WORDS: usize = NAME_LEN + 1;
 /// The word of node 0 as a wire: the words before it are the two constants'.
 pub const FIRST_NODE: usize = 2;
 
+/// The figures of a record that the definitions mean where they name them, and that callers in C write. A law: it does nothing when it runs.
+pub fn record_layout()
+    ensures kinds { (INPUT ≡ 1) × (CELL ≡ 2) }
+    ensures places { (COUNT_AT ≡ 1) × (TABLE_AT ≡ 2) × (NAME_AT ≡ 3) × (WIRES_AT ≡ 7) }
+    ensures widths { (NAME_LEN ≡ 4) × (WIRES ≡ 2) × (NODE_WORDS ≡ 9) × (OUTPUT_WORDS ≡ 5) }
+    ensures wires { FIRST_NODE ≡ 2 }
+{}
+
 /// A place in the circuit, counted from 0 in storage order.
 #[derive(Clone, Copy)]
 pub struct NodeNumber(pub usize);
@@ -107,7 +115,10 @@ impl BoolNode {
         ensures { result ≡ cell_node name table wires.now }
     {
         let mut places = [BoolWire::Const(false); WIRES];
-        places[..wires.len()].copy_from_slice(wires);
+        // Place by place: a copy of so many wires would be a call of `memcpy`, which the static library then asks its callers for.
+        for (k, place) in places.iter_mut().enumerate() {
+            *place = place_wire(wires, k);
+        }
         BoolNode {
             kind: CELL,
             count: wires.len(),
@@ -115,6 +126,17 @@ impl BoolNode {
             name,
             wires: places,
         }
+    }
+}
+
+/// The wire of place k in a record: past the wires constant 0.
+pub fn place_wire(wires: &[BoolWire], k: usize) -> BoolWire
+    ensures { result ≡ get_or wires.now k no_wire }
+{
+    if k < wires.len() {
+        wires[k]
+    } else {
+        BoolWire::Const(false)
     }
 }
 

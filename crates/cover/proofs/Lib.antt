@@ -1,3 +1,4 @@
+pub mod FrontLaws
 pub mod GateLaws
 pub mod LineLaws
 pub mod RowLaws

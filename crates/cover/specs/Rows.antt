@@ -1,6 +1,6 @@
 -- A line with `.` first as the code reads it; the rows from a place on, and what each step of their iterator gives.
 -- Assumes nothing.
-use Rattle.std.specs.Prelude.{ℕ, ◌+◌, ◌-◌, ◌≤◌, ◌≡◌, true, false, List, length, Option, IfSome, MatchOption}
+use Rattle.std.specs.Prelude.{ℕ, ◌+◌, ◌-◌, ◌≤◌, ◌≡◌, true, false, List, length, take, Option, IfSome, MatchOption}
 use Rattle.std.specs.Iterator.{YieldsFirstBy}
 use Rattle.laws.specs.Stretches.{stretch}
 use Rattle.text.specs.Iterators.{words_left}
@@ -18,6 +18,10 @@ rows_from t at = rows_of t (lines at (stretch t at (length t - at)))
 -- those that an iterator has yet to give
 abbrev pub rows_left : Rows → List (List Word)
 rows_left r = rows_from r.lines.text.now r.lines.at
+
+-- the rows of an iterator are those of a text, or of a front of it
+abbrev pub RowsOf : List ℕ → Rows → Type 0
+RowsOf t r = r.lines.text.now ≡ take (length r.lines.text.now) t
 
 -- `next` took an iterator from old to new and gave the words of the first of its rows
 pub record GivesRow (old : Rows) (item : Option Words) (new : Rows) : Type 0 where

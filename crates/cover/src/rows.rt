@@ -1,14 +1,15 @@
 // The rows of a `.names` line, and the table that they give.
 ghost use Rattle.std.specs.Prelude.{◌≡◌, ◌+◌, ◌≤◌, ◌<◌, length};
 ghost use Rattle.laws.specs.Stretches.{stretch};
-ghost use Rattle.text.specs.Iterators.{words_left};
+ghost use Rattle.text.specs.Iterators.{words_left, GivesWord};
 ghost use Rattle.cover.specs.Cover.{RowIs, BitIs, fits, matches, entry_count, set_row, start_table, set_rows, rows_table, constant, cover};
 ghost use Rattle.cover.specs.declared.rows.TheConstants.{TABLE_BITS, TABLE_INPUTS};
 ghost use Rattle.cover.specs.Rows.{rows_left};
 
 use crate::lines::Rows;
 use cells::{set_table_entry, table_entry};
-use text::words::Words;
+use text::blanks::{scan_blank, skip_blanks};
+use text::words::{Word, Words};
 
 /// The bits of a table.
 pub const TABLE_BITS: usize = 64;
@@ -47,20 +48,36 @@ pub fn parse_bit(word: &[u8]) -> Option<usize>
     }
 }
 
+/// The next word, as `next` gives it, byte by byte: the words of a row are short.
+#[inline(always)]
+pub fn next_short(words: &mut Words) -> Option<Word>
+    ensures { GivesWord words.old result words.new }
+{
+    let left = &words.text[words.at..words.end];
+    let rest = &left[skip_blanks(left)..];
+    let len = scan_blank(rest);
+    if len == 0 {
+        return None;
+    }
+    let start = words.end - rest.len();
+    words.at = start + len;
+    Some(Word { start, len })
+}
+
 /// A row from its words: a pattern and a value, which may be absent.
 #[tactic(auto, unfolding(crate::specs::Cover::row_of, crate::specs::Cover::row_with))]
 pub fn parse_row(mut words: Words, inputs: usize) -> Option<Row>
     ensures { RowIs words.entry.text.now inputs words.entry.end result (words_left words.entry) }
 {
-    let pattern = words.next()?;
+    let pattern = next_short(&mut words)?;
     if pattern.len != inputs {
         return None;
     }
     let start = pattern.start;
-    let Some(bit) = words.next() else {
+    let Some(bit) = next_short(&mut words) else {
         return Some(Row { start, value: 1 });
     };
-    if words.next().is_some() {
+    if next_short(&mut words).is_some() {
         return None;
     }
     let value = parse_bit(bit.bytes(words.text))?;

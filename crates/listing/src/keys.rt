@@ -7,6 +7,11 @@ ghost use Rattle.listing.specs.Listing.{keys_from};
 /// The numbers of a key.
 pub const KEY_LEN: usize = 3;
 
+/// The figure that the definitions mean where they name it. A law: it does nothing when it runs.
+pub fn key_width()
+    ensures { KEY_LEN ≡ 3 }
+{}
+
 /// Key (0, 0, node number) for each of `nodes` nodes.
 pub fn fill_keys(keys: &mut [u32], nodes: usize)
     requires { (nodes * KEY_LEN ≤ length keys.old) × (nodes ≤ MOST_RECORDS) }

@@ -2,6 +2,8 @@
 
 #![tactic(auto)]
 
+ghost use Rattle.std.specs.Prelude.{◌≡◌};
+
 pub mod keys;
 pub mod lent;
 pub mod line;
@@ -16,3 +18,8 @@ pub const LISTED: usize = 1024;
 
 /// The longest text that a program lists, in bytes.
 pub const LISTED_TEXT: usize = 32_768;
+
+/// The figures that the definitions mean where they name them. A law: it does nothing when it runs.
+pub fn listing_caps()
+    ensures { (LISTED ≡ 1024) × (LISTED_TEXT ≡ 32768) }
+{}

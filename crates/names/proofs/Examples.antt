@@ -20,7 +20,7 @@ two = record { start = 2; len = 2; wire = 7 } ∷ record { start = 0; len = 2; w
 
 -- the area that holds these two, the first record linking to the second by the first digit of "ba"
 area : List ℕ
-area = 115603339739138 ∷ 8589934592 ∷ 0 ∷ 0 ∷ 5 ∷ 103031970463746 ∷ 0 ∷ 0 ∷ 2 ∷ 7 ∷ []
+area = 13731872342169092098 ∷ 8589934592 ∷ 0 ∷ 0 ∷ 5 ∷ 18130469231857238018 ∷ 0 ∷ 0 ∷ 2 ∷ 7 ∷ []
 
 -- the head of their bucket is the first record's
 heads : List ℕ

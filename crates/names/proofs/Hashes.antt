@@ -1,6 +1,8 @@
--- Laws of the sums of a name's bytes: four bytes further, and at the end.
+-- Laws of the sums of a name's bytes: four bytes further, and at the end; and of the halves of the mix.
 -- Assumes nothing.
 use Rattle.std.proofs.Common.{◌≡◌, ℕ, ◌+◌, ◌-◌, ◌*◌, ◌/◌, ◌%◌, ◌^◌, ◌<◌, ◌≤◌, List, [], ◌∷◌, length, get_or, refl, ap, ◌∙◌, arith}
+use Rattle.std.specs.Int.{rotate_left, w32}
+use Rattle.std.proofs.lemmas.Nat.{or_shifted}
 use Rattle.laws.specs.Stretches.{stretch}
 use Rattle.names.specs.Chains.{wrapping_sum, sum_in, four_bytes, word_of, mix_in, mixed}
 use Rattle.names.specs.Bounds.{Bytes}
@@ -66,3 +68,10 @@ mix_short s (a ∷ []) k = refl
 mix_short s (a ∷ b ∷ []) k = refl
 mix_short s (a ∷ b ∷ c ∷ []) k = refl
 mix_short s (a ∷ b ∷ c ∷ d ∷ l) k = absurd (omega arith)
+
+-- ---- the halves of the mix, in each other's place
+
+pub rotate_left-half : (m : ℕ) → m < 2 ^ 32 → rotate_left w32 m 16 ≡ m / 65536 + m % 65536 * 65536
+rotate_left-half m l =
+    let up : m * 2 ^ 16 % 2 ^ 32 ≡ m % 65536 * 2 ^ 16 = omega arith in
+    rw up (or_shifted (m % 65536) 16 (m / 65536) (omega arith) ∙ omega arith)

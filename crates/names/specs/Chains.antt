@@ -41,20 +41,21 @@ mixed s (a ∷ b ∷ []) = mix_in s (word_of (a ∷ b ∷ []))
 mixed s (a ∷ b ∷ c ∷ []) = mix_in s (word_of (a ∷ b ∷ c ∷ []))
 mixed s (a ∷ b ∷ c ∷ d ∷ bs) = mixed (mix_in s (word_of (a ∷ b ∷ c ∷ d ∷ []))) bs
 
--- a second hash of a name: 16 bits of that
+-- a second hash of a name: both halves of its mix, exchanged; the digits begin with the upper half of the mix, which is the lower one here, and the other half only
+-- saves comparing bytes
 unfoldable pub hash_of : List ℕ → ℕ
-hash_of bytes = mixed 0 bytes / 65536
+hash_of bytes = let m = mixed 0 bytes in m / 65536 + m % 65536 * 65536
 
--- the key of a name: its length, and in the upper half of the word that hash
+-- the key of a name: in the lower half of a word its length, modulo 2^32, and in the upper half that hash
 unfoldable pub key_of : List ℕ → ℕ
-key_of bytes = length bytes + hash_of bytes * HALF
+key_of bytes = length bytes % HALF + hash_of bytes * HALF
 
 -- digit i of a number that has n digits, the highest first
 abbrev pub digit_in : ℕ → ℕ → ℕ → ℕ
 digit_in x n i = x / 2 ^ ((n - 1 - i) * DIGIT_BITS) % LINKS
 
--- digit d of a name: those of its key first (of the hash, then of the length), then those of each byte in turn; the length stands before the bytes, so that no
--- name's digits are the start of another's
+-- digit d of a name: those of its key first (of the lower half of the hash, then of the length), then those of each byte in turn; the length stands before the
+-- bytes, so that no name's digits are the start of another's
 unfoldable pub digit_of : List ℕ → ℕ → ℕ
 digit_of bytes d =
     if ltb d KEY_DIGITS then digit_in (key_of bytes) KEY_DIGITS d

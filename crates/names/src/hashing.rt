@@ -90,8 +90,8 @@ pub fn sum_words(text: &[u8], word: Word) -> Sums
     sums
 }
 
-/// The bucket of a name (the 32-bit wrapping sum of its bytes, modulo 256) and its key: its length, and in the
-/// upper half of the word the second hash.
+/// The bucket of a name (the 32-bit wrapping sum of its bytes, modulo 256) and its key: in the lower half of the word
+/// its length, modulo 2^32, and in the upper half the second hash, of 32 bits.
 #[derive(Clone, Copy)]
 pub struct Hash {
     pub bucket: u8,
@@ -100,7 +100,7 @@ pub struct Hash {
 
 /// Both in one pass over the bytes of a name.
 pub fn hash_of(text: &[u8], word: Word) -> Hash
-    requires { (word.start + word.len ≤ length text.now) × (length text.now < HALF) }
+    requires { word.start + word.len ≤ length text.now }
     ensures bucket_value { result.bucket ≡ bucket_of (bytes_of text.now word) }
     ensures key_value { result.key ≡ key_of (bytes_of text.now word) }
 {
@@ -112,6 +112,6 @@ pub fn hash_of(text: &[u8], word: Word) -> Hash
     let all = sum_words(text, word).with_word(last_bytes(text, last));
     Hash {
         bucket: (all.sum % 256) as u8,
-        key: word.len + (all.mix / 65536) as usize * HALF,
+        key: word.len % HALF + all.mix.rotate_left(16) as usize * HALF,
     }
 }

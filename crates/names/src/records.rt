@@ -9,6 +9,11 @@ use text::words::Word;
 /// Key and links, which a search reads of most records that it comes to, stand side by side.
 pub const NAME_WORDS: usize = 5;
 
+/// The figure that the definitions mean where they name it, and that callers in C lend by. A law: it does nothing when it runs.
+pub fn record_width()
+    ensures { NAME_WORDS ≡ 5 }
+{}
+
 /// The place in a record of its first word of links; the key stands in front of it.
 pub const LINKS_AT: usize = 1;
 
@@ -33,7 +38,7 @@ pub const LINKS: usize = 1 << DIGIT_BITS;
 /// How many links stand in one word.
 pub const WORD_LINKS: usize = 2;
 
-/// The digits of a key: 8 of the hash in it, then 16 of the length.
+/// The digits of a key: 8 of the lower half of the hash in it, then 16 of the length.
 pub const KEY_DIGITS: usize = 24;
 
 /// The digits of a byte.

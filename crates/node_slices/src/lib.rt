@@ -6,6 +6,8 @@ ghost use Rattle.std.specs.Prelude.{◌≡◌, length};
 ghost use Rattle.circuit.specs.Check.{check_nodes};
 ghost use Rattle.node_slices.specs.Slices.{slice_fault};
 
+pub mod promised;
+
 use circuit::check::{not_below, output_outside, record_broken, wire_refusal};
 use circuit::nodes::Outputs;
 use circuit::records::{BoolNode, OUTPUT_WORDS, wire_at, wire_count};

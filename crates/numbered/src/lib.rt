@@ -14,6 +14,11 @@ use values::assignments::count_inputs;
 /// The most inputs of a circuit whose assignments are numbered.
 pub const MOST_NUMBERED: usize = 20;
 
+/// The figure that the definitions mean where they name it. A law: it does nothing when it runs.
+pub fn numbered_cap()
+    ensures { MOST_NUMBERED ≡ 20 }
+{}
+
 /// The first refusal for n inputs, a number and an area of so many places: `TooManyInputs`, `WrongValues` (the number is not below 2 ^ n), `NoRoom`.
 pub fn number_fault(n: usize, number: usize, size: usize) -> Result<(), Refusal>
     ensures { result ≡ number_fault n number size }

@@ -36,6 +36,11 @@ pub mod rooms;
 /// The window of the listing's order.
 pub const LISTING_WINDOW: usize = 2;
 
+/// The window that the definitions mean where they name it. A law: it does nothing when it runs.
+pub fn window_of_listing()
+    ensures { LISTING_WINDOW ≡ 2 }
+{}
+
 /// The order of a listing: by the greatest node number of those in the window, whose keys are (0, 0, node number).
 /// How many cells it has, or the schedule's refusal.
 pub fn order_cells(

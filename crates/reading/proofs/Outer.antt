@@ -1,7 +1,7 @@
 -- Laws of the outer functions: the areas made ready, and what a reading ends in.
 -- Assumes nothing.
 use Rattle.std.specs.Prelude.{Err, Ok}
-use Prim.Native.Nat.{ℕ, ◌-◌, ◌*◌, ◌<◌}
+use Prim.Native.Nat.{ℕ, ◌+◌, ◌-◌, ◌*◌, ◌≤◌, ◌<◌}
 use mathlib.Core.Path.{◌≡◌, sym, ap, ap₂, ◌∙◌}
 use mathlib.Core.Bool.{Bool, not}
 use mathlib.Core.List.{List, ◌++◌}
@@ -37,8 +37,8 @@ pub sound-fits : (text : List ℕ) (j : ℕ) → text_fault text j ≡ Ok tt →
 unfolding text_fault
 sound-fits text j e = leb-false j (length text) (not_refused (leb j (length text)) NoRoom (no_fault (bytes_fault text) (refuse_if (leb j (length text)) NoRoom) e).1)
 
--- the joined text is short enough for a table of names
-pub joined_short : (text : List ℕ) (j size r : ℕ) (joined : List ℕ) → text_fault text j ≡ Ok tt → Joins text size r joined → r < HALF
+-- the joined text has at most one byte more than a text may have
+pub joined_short : (text : List ℕ) (j size r : ℕ) (joined : List ℕ) → text_fault text j ≡ Ok tt → Joins text size r joined → r ≤ MOST_TEXT + 1
 unfolding text_fault bytes_fault
 joined_short text j size r joined e k =
     let l = ltb-false MOST_TEXT (length text) (not_refused (ltb MOST_TEXT (length text)) TextTooLong (no_fault (refuse_if (ltb MOST_TEXT (length text)) TextTooLong) (refuse_if (not (is_ascii text)) NotAscii) (no_fault (bytes_fault text) (refuse_if (leb j (length text)) NoRoom) e).0).0) in

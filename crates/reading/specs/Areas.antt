@@ -1,12 +1,12 @@
 -- What a reader of a joined text answers and leaves in every area.
 -- Assumes nothing.
-use Rattle.std.specs.Prelude.{ℕ, ◌≤◌, ◌<◌, ◌≡◌, List, [], length, replicate, take, Err, Ok}
+use Rattle.std.specs.Prelude.{ℕ, ◌+◌, ◌≤◌, ◌≡◌, List, [], length, replicate, take, Err, Ok}
 use Rattle.circuit.specs.declared.refusals.Refusal.{Refusal}
 use Rattle.circuit.specs.declared.records.Sizes.{Sizes}
 use Rattle.circuit.specs.Refusals.{Try, check_then}
 use Rattle.circuit.specs.Circuits.{Circuit, filled, read_answer, node_words, output_words}
+use Rattle.text.specs.declared.TheConstants.{MOST_TEXT}
 use Rattle.text.specs.Joining.{joined_text}
-use Rattle.names.specs.declared.records.TheConstants.{HALF}
 use Rattle.reading.specs.Reading.{Places, places_in, text_fault}
 use Rattle.reading.specs.Holding.{Ends}
 
@@ -48,7 +48,7 @@ pub record JoinedIn (text : List ℕ) (used : ℕ) (joined : List ℕ) : Type 0 
 -- a text that has no fault, with its areas ready to be read into
 pub record Readied (text : List ℕ) (j n o used : ℕ) (joined nodes outputs : List ℕ) : Type 0 where
   pub sound : text_fault text j ≡ Ok tt
-  pub short : used < HALF
+  pub short : used ≤ MOST_TEXT + 1
   pub joined_in : JoinedIn text used joined
   pub nodes_is : nodes ≡ replicate n 0
   pub outputs_is : outputs ≡ replicate o 0

@@ -11,6 +11,11 @@ use crate::words::Word;
 /// Where the bytes of ASCII end: they are those below it.
 pub const ASCII_END: usize = 128;
 
+/// The figure that the definitions mean where they name it. A law: it does nothing when it runs.
+pub fn ascii_limit()
+    ensures { ASCII_END ≡ 128 }
+{}
+
 /// The bytes that are looked at together where a byte is mostly far.
 pub const BLOCK: usize = 32;
 

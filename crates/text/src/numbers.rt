@@ -5,6 +5,11 @@ ghost use Rattle.text.specs.Numbers.{number_of, digits, parse_usize};
 /// The base of the numbers.
 pub const BASE: usize = 10;
 
+/// The figure that the definitions mean where they name it. A law: it does nothing when it runs.
+pub fn decimal_base()
+    ensures { BASE ≡ 10 }
+{}
+
 /// A number of one digit or more; `None` where another byte stands, or the number has more than 64 bits.
 pub fn parse_digits(bytes: &[u8]) -> Option<usize>
     ensures { number_of result ≡ digits bytes.now }

@@ -10,3 +10,4 @@ pub mod Calls
 pub mod Evaluating
 pub mod CellNodes
 pub mod Examples
+pub mod Bounds

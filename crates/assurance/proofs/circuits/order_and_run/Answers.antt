@@ -1,15 +1,10 @@
-use mathlib.Core.Path.{sym}
-use lib.Seq.{length-take-le}
 use Rattle.assurance.specs.Composed.{question}
 use Rattle.assurance.proofs.Running.{refused_run, cells_inside, accepted_run, circuit_assured}
 use Rattle.assurance.specs.Assurance.{Areas}
 use Rattle.assurance.proofs.circuits.order_and_run.Goals as goal
 
-pub slice_bounds-run-end : goal.slice_bounds-run-end
-slice_bounds-run-end c = cells_inside c.args.nodes.now c.args.outputs.now (question c.args.asked) (record { ready = c.args.ready.now; successors = c.args.successors.now; order = c.args.order.now; values = c.args.values.now; answers = c.args.answers.now; evaluated = c.args.evaluated.now }) _ _ _ c.in-Ok.cells (rw c.in-Ok.is at c.scheduled_gates_by_key.ensures)
-
-pub slice_bounds-run-end-in-Ok : goal.slice_bounds-run-end-in-Ok
-slice_bounds-run-end-in-Ok c = sym (length-take-le c.in-Ok.cells c.scheduled_gates_by_key.new.order (cells_inside c.args.nodes.now c.args.outputs.now (question c.args.asked) (record { ready = c.args.ready.now; successors = c.args.successors.now; order = c.args.order.now; values = c.args.values.now; answers = c.args.answers.now; evaluated = c.args.evaluated.now }) _ _ _ c.in-Ok.cells (rw c.in-Ok.is at c.scheduled_gates_by_key.ensures)))
+pub run_and_evaluate-requires : goal.run_and_evaluate-requires
+run_and_evaluate-requires c = cells_inside c.args.nodes.now c.args.outputs.now (question c.args.asked) (record { ready = c.args.ready.now; successors = c.args.successors.now; order = c.args.order.now; values = c.args.values.now; answers = c.args.answers.now; evaluated = c.args.evaluated.now }) _ _ _ c.in-Ok.cells (rw c.in-Ok.is at c.scheduled_gates_by_key.ensures)
 
 pub returns-in-Ok : goal.returns-in-Ok
 returns-in-Ok c =
@@ -17,8 +12,7 @@ returns-in-Ok c =
     let before : Areas = record { ready = c.args.ready.now; successors = c.args.successors.now; order = c.args.order.now; values = c.args.values.now; answers = c.args.answers.now; evaluated = c.args.evaluated.now } in
     circuit_assured c.args.nodes.now c.args.outputs.now q before _ _
     (accepted_run c.args.nodes.now c.args.outputs.now q before _ _ _ c.in-Ok.cells (rw c.in-Ok.is at c.scheduled_gates_by_key.ensures)
-    (record { ran = c.run-ran.result; evaluated = c.evaluate-evaluated.result }) c.run-ran.new.values c.evaluate-evaluated.new.values c.run-ran.new.answers c.evaluate-evaluated.new.answers
-    c.run-ran.auto.values c.run-ran.ensures c.evaluate-evaluated.ensures)
+    c.run_and_evaluate.result c.run_and_evaluate.new.values c.run_and_evaluate.new.answers c.run_and_evaluate.new.evaluated c.run_and_evaluate.ensures)
 
 pub returns-in-Err : goal.returns-in-Err
 returns-in-Err c =

@@ -1,14 +1,8 @@
 use lib.ListN.{length}
 use Rattle.reading.specs.Areas.{read_text}
 use Rattle.assurance.specs.Composed.{question}
-use Rattle.assurance.proofs.Composing.{read_inside, text_assured}
+use Rattle.assurance.proofs.Composing.{text_assured}
 use Rattle.assurance.proofs.texts.assured_text.Goals as goal
-
-pub run_read-requires : goal.run_read-requires
-run_read-requires g c =
-    let said = read_text g.F.Format.lines c.args.text.now (length c.args.joined.now) (length c.args.nodes.now) (length c.args.names.now) (length c.args.outputs.now) in
-    let left = c.parse-read.ensures in
-    record { inside = read_inside said (length c.args.nodes.now) (length c.args.outputs.now) _ _ _ left.answer left.nodes_is left.outputs_is }
 
 pub returns-clause-assured : goal.returns-clause-assured
 returns-clause-assured g c =

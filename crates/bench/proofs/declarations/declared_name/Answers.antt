@@ -11,9 +11,9 @@ returns-in_err-invocation c =
 
 pub returns : goal.returns
 returns c = record {
-  is = one_name c.args.text.now c.args.line c.in_ok-invocation.invocation c.in_ok-invocation.ensures.is _ c.arguments_of-names.ensures.all c.in-Some-None.name _ c.in-Some-None.ensures.steps.first c.in-Some-None.ensures'.steps.first.0 c.declaration_of.result (c.declaration_of.ensures ∙ ap declaration_of c.bytes.ensures);
-  inside = rw c.arguments_of-names.ensures.same_text at c.in-Some-None.ensures.steps.is_argument.0;
+  is = one_name c.args.text.now c.args.line c.in_ok-invocation.invocation c.in_ok-invocation.ensures.is _ c.arguments_at-names.ensures.all c.in-Some-None.name _ c.in-Some-None.ensures.steps.first c.in-Some-None.ensures'.steps.first.0 c.declaration_of.result (c.declaration_of.ensures ∙ ap declaration_of c.bytes.ensures);
+  inside = rw c.arguments_at-names.ensures.same_text at c.in-Some-None.ensures.steps.is_argument.0;
 }
 
 pub returns-in_default : goal.returns-in_default
-returns-in_default c = name_refused c.args.text.now _ _ (more_names c.args.text.now c.args.line c.in_ok-invocation.invocation c.in_ok-invocation.ensures.is _ c.arguments_of-names.ensures.all _ _ c.in_default.ensures.steps.first _ _ c.in_default.ensures'.steps.first)
+returns-in_default c = name_refused c.args.text.now _ _ (more_names c.args.text.now c.args.line c.in_ok-invocation.invocation c.in_ok-invocation.ensures.is _ c.arguments_at-names.ensures.all _ _ c.in_default.ensures.steps.first _ _ c.in_default.ensures'.steps.first)

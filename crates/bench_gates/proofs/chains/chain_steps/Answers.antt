@@ -14,8 +14,8 @@ loop-k-init c =
     let same = c.into_iter-k-iterator.ensures.into_iter_gives in
     let number = ap enumerate_count same ∙ c.enumerate-k-items.ensures.count in
     let source = ap enumerate_source same ∙ c.enumerate-k-items.ensures.source in
-    let few = ap length c.arguments_of.ensures.all in
-    rw (source, number) ((tt, tt, inl (rw c.skip.ensures.source (omega (arith, few, argument_count t.text.now c.args.plan.inside c.requires.inside_in_text)))), tt, stepping_start c.requires.inside_in_text c.requires.area _ c.arguments_of.ensures.all _ c.skip.ensures.source c.skip.ensures.count)
+    let few = ap length c.arguments_at.ensures.all in
+    rw (source, number) ((tt, tt, inl (rw c.skip.ensures.source (omega (arith, few, argument_count t.text.now c.args.plan.arguments c.requires.arguments_in_text)))), tt, stepping_start c.requires.arguments_in_text c.requires.area _ c.arguments_at.ensures.all _ c.skip.ensures.source c.skip.ensures.count)
 
 pub argument_wire-requires : goal.argument_wire-requires
 argument_wire-requires c =

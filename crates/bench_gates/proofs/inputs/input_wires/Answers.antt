@@ -14,9 +14,9 @@ loop-n-init c =
     let same = c.into_iter-n-iterator.ensures.into_iter_gives in
     let number = ap enumerate_count same ∙ c.enumerate-n-items.ensures.count in
     let source = ap enumerate_source same ∙ c.enumerate-n-items.ensures.source in
-    let few = ap length c.arguments_of.ensures.all in
+    let few = ap length c.arguments_at.ensures.all in
     rw (source, number)
-    ((tt, tt, inl (omega (arith, few, argument_count t.text.now c.args.inside c.requires))), tt, c.arguments_of.ensures.same_text, rw c.arguments_of.ensures.all walking_start)
+    ((tt, tt, inl (omega (arith, few, argument_count t.text.now c.args.arguments c.requires))), tt, c.arguments_at.ensures.same_text, rw c.arguments_at.ensures.all walking_start)
 
 pub returns-in_err-wire : goal.returns-in_err-wire
 returns-in_err-wire c =

@@ -1,8 +1,7 @@
 use Rattle.std.proofs.Common.{◌≡◌}
 use Rattle.std.specs.Iterator.Adapters.{enumerate_source, enumerate_count}
 use Rattle.names.specs.Chains.{entries}
-use Rattle.bench_invocations.specs.Invocations.{arguments_of}
-use Rattle.bench_invocations.specs.Walks.{arguments_left}
+use Rattle.bench_invocations.specs.Walks.{arguments_at, arguments_left}
 use Rattle.bench_gates.proofs.Drivers.{Walking}
 use Rattle.bench_gates.proofs.inputs.input_wires.Given as goal
 
@@ -12,4 +11,4 @@ invariant-loop-n l =
     goal.iterator-loop-n.can_next l.n-iterator
     × goal.iterator-loop-n.is_finite l.n-iterator
     × ((enumerate_source l.n-iterator).text.now ≡ t)
-    × Walking t (entries l.table.names.now l.table.count) (arguments_left (enumerate_source l.n-iterator)) (arguments_of t l.fn.inside) (enumerate_count l.n-iterator) l.wires
+    × Walking t (entries l.table.names.now l.table.count) (arguments_left (enumerate_source l.n-iterator)) (arguments_at t l.fn.arguments) (enumerate_count l.n-iterator) l.wires

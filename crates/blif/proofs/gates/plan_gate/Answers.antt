@@ -4,9 +4,8 @@ use lib.Seq.{length-take-le}
 use Rattle.std.specs.Prelude.{Some}
 use Rattle.std.proofs.lemmas.Result.{err_from_is_err_and}
 use Rattle.circuit.specs.declared.records.TheConstants.{WIRES}
-use Rattle.cover.specs.Cover.{cover}
 use Rattle.cover.specs.Gates.{gate_of, seen_of, words_seen}
-use Rattle.cover.specs.Rows.{rows_left}
+use Rattle.cover.proofs.FrontLaws.{cover_front}
 use Rattle.blif.proofs.Plans.{plan_stop, plan_rows, plan_made}
 use Rattle.blif.proofs.gates.plan_gate.Goals as goal
 
@@ -25,7 +24,7 @@ returns c =
     let all : length c.in_ok-gate.gate.inputs ≡ WIRES = search rules in
     let few : n ≤ WIRES = search rules in
     let size : length (take n c.in_ok-gate.gate.inputs) ≡ n = length-take-le n c.in_ok-gate.gate.inputs (omega (arith, all)) in
-    let rows = c.parse_cover.ensures ∙ ap (λ (t : List ℕ). cover t n (rows_left c.rows_from-rows.result)) c.rows_from-rows.ensures.places.0 ∙ ap (cover text n) c.rows_from-rows.ensures.all in
+    let rows = c.parse_cover.ensures ∙ cover_front c.args.rows.lines.text.now text c.requires.rows_in_text n c.args.rows.lines.at in
     record {
       is = rw (c.in-Err.ensures.1) (plan_made text _ _ _ c.in_ok-gate.gate gate c.in-Err.ensures.0 n c.in_ok-count.ensures.ok_part all few _ (rw size at c.in_ok-wires.ensures) c.parse_cover.result rows c.in_ok-truth_table.truth_table c.in_ok-truth_table.ensures.ok_part);
       new = c.in-Err.ensures.2;
@@ -40,6 +39,6 @@ returns-in_err-truth_table c =
     let all : length c.in_ok-gate.gate.inputs ≡ WIRES = search rules in
     let few : n ≤ WIRES = search rules in
     let size : length (take n c.in_ok-gate.gate.inputs) ≡ n = length-take-le n c.in_ok-gate.gate.inputs (omega (arith, all)) in
-    let rows = c.parse_cover.ensures ∙ ap (λ (t : List ℕ). cover t n (rows_left c.rows_from-rows.result)) c.rows_from-rows.ensures.places.0 ∙ ap (cover text n) c.rows_from-rows.ensures.all in
+    let rows = c.parse_cover.ensures ∙ cover_front c.args.rows.lines.text.now text c.requires.rows_in_text n c.args.rows.lines.at in
     rw (p.1, p.2)
     (record { is = plan_rows text _ _ _ c.in_ok-gate.gate gate c.in-Err.ensures.0 n c.in_ok-count.ensures.ok_part all few _ (rw size at c.in_ok-wires.ensures) c.parse_cover.result rows _ c.in_err-truth_table.ensures.value c.in_err-truth_table.ensures.ok_part; new = tt })
