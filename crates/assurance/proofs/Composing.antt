@@ -19,7 +19,7 @@ use Rattle.reading.specs.Areas.{Leaves}
 use Rattle.assurance.specs.declared.circuits.Both.{Both}
 use Rattle.assurance.specs.Assurance.{Question, Areas}
 use Rattle.assurance.specs.Composed.{TextRun, TextAssured}
-use Rattle.assurance.specs.Inner.{Inside, ReadRun}
+use Rattle.assurance.specs.Inner.{Inside, ReadRun, ReadSizesRun}
 use Rattle.assurance.proofs.Carrying.{carried}
 
 -- the area's first records are the circuit's
@@ -38,6 +38,12 @@ pub leaves_answer : (text : List ℕ) (c : Try Circuit) (j n m o : ℕ) (r : Try
 leaves_answer text c j n m o r J N M O l =
     record { answer = refl; joined_is = l.joined_is; nodes_is = l.nodes_is; names_is = l.names_is; outputs_is = l.outputs_is }
 
+-- of a reader that counts no more records than stand in its areas
+pub read_run : (nodes outputs : List ℕ) (r : Try Sizes) (q : Question) (before : Areas) (b : Both) (after : Areas) → IfOk r (Inside nodes outputs)
+    → ReadSizesRun nodes outputs r q before b after → ReadRun nodes outputs r q before b after
+read_run nodes outputs (Err e) q before b after inside run = run
+read_run nodes outputs (Ok sizes) q before b after inside run = (run.run inside).run
+
 module _ (read : Try Circuit) (n o : ℕ) (r : Try Sizes) (N O : List ℕ) (answer : r ≡ read_answer read) (nodes_are : N ≡ filled (node_words read) n) (outputs_are : O ≡ filled (output_words read) o) where
   -- a circuit that was read stands in front of its areas
   pub read_inside : IfOk r (Inside N O)
@@ -53,15 +59,19 @@ module _ (read : Try Circuit) (n o : ℕ) (r : Try Sizes) (N O : List ℕ) (answ
 
   module _ (q : Question) (before : Areas) (b : Both) (after : Areas) (run : ReadRun N O r q before b after) where
     text_run : TextRun read q before b after
-    text_run = go read refl (rw answer at read_inside) (rw answer at run)
+    text_run = go read refl (rw answer at run)
       where
-        go : (x : Try Circuit) → read ≡ x → IfOk (read_answer x) (Inside N O) → ReadRun N O (read_answer x) q before b after → TextRun x q before b after
-        go (Err e) p inside h = h
-        go (Ok c) p inside h =
+        go : (x : Try Circuit) → read ≡ x → ReadRun N O (read_answer x) q before b after → TextRun x q before b after
+        go (Err e) p h = h
+        go (Ok c) p h =
             rw (
               records_front encode_node NODE_WORDS node_wide c.nodes (length c.nodes) n N (rw p at nodes_are) refl,
               records_front encode_output OUTPUT_WORDS output_wide c.outputs (length c.outputs) o O (rw p at outputs_are) refl,
-            ) at ((h.run inside).run)
+            ) at h
 
     pub text_assured : ((c : Circuit) → read ≡ Ok c → KeepsRules c) → TextAssured read q before b after
     text_assured sound = record { run = text_run; carried = λ c p lent. carried c q before (sound c p) lent b after (rw p at text_run) }
+
+  module _ (q : Question) (before : Areas) (b : Both) (after : Areas) (run : ReadSizesRun N O r q before b after) where
+    pub sizes_assured : ((c : Circuit) → read ≡ Ok c → KeepsRules c) → TextAssured read q before b after
+    sizes_assured = text_assured q before b after (read_run N O r q before b after read_inside run)

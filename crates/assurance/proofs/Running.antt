@@ -127,10 +127,10 @@ module _ (nodes outputs : List ℕ) (q : Question) (before : Areas) (x y z : Lis
     order_front : take cells z ≡ order_asked nodes q
     order_front = ap (take cells) order_area ∙ take_at (order_asked nodes q) _ cells count_is
 
-    pub accepted_run : (r : Both) (v a w : List ℕ)
+    pub accepted_both : (r : Both) (v a w : List ℕ)
         → RanThenEvaluated nodes outputs (take cells z) q.assignment before.values before.answers before.evaluated r v a w
         → CircuitRun nodes outputs q before r (record { ready = x; successors = y; order = z; values = v; answers = a; evaluated = w })
-    accepted_run r v a w h = rw scheduled.accepted ran
+    accepted_both r v a w h = rw scheduled.accepted ran
       where
         ran : Ran nodes outputs q before r (record { ready = x; successors = y; order = z; values = v; answers = a; evaluated = w })
         ran = record {
@@ -140,6 +140,13 @@ module _ (nodes outputs : List ℕ) (q : Question) (before : Areas) (x y z : Lis
           run_is = rw order_front at h.run_is;
           evaluate_is = h.evaluate_is;
         }
+
+    pub accepted_run : (r : Both) (mid v a w : List ℕ) → length mid ≡ length before.values
+        → call_result r.ran mid a ≡ run_call nodes outputs (take cells z) q.assignment before.values before.answers
+        → call_result r.evaluated v w ≡ evaluate_call nodes outputs q.assignment mid before.evaluated
+        → CircuitRun nodes outputs q before r (record { ready = x; successors = y; order = z; values = v; answers = a; evaluated = w })
+    accepted_run r mid v a w l run evaluate =
+        accepted_both r v a w (ran_then_evaluated nodes outputs (take cells z) q.assignment before.values before.answers before.evaluated r mid v a w l run evaluate)
 
 -- ---- with the claims
 

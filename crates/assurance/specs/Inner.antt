@@ -10,7 +10,7 @@ use Rattle.reading.specs.Reading.{Places}
 use Rattle.reading.specs.Areas.{read_text}
 use Rattle.assurance.specs.declared.circuits.Both.{Both}
 use Rattle.assurance.specs.Assurance.{Question, Areas}
-use Rattle.assurance.specs.Composed.{Refused, CircuitAssured}
+use Rattle.assurance.specs.Composed.{Refused, CircuitRun, CircuitAssured}
 
 -- What is read of a text of the format passes the circuit check, whatever the areas' sizes.
 abbrev pub Sounds : (List ℕ → Places → Try Circuit) → Type 0
@@ -21,6 +21,12 @@ pub record Inside (nodes outputs : List ℕ) (sizes : Sizes) : Type 0 where
   pub nodes_inside : sizes.nodes * NODE_WORDS ≤ length nodes
   pub outputs_inside : sizes.outputs * OUTPUT_WORDS ≤ length outputs
 
+-- By a reader's answer: its refusal, or the run of the first records of the areas that it wrote.
+abbrev pub ReadRun : List ℕ → List ℕ → Try Sizes → Question → Areas → Both → Areas → Type 0
+ReadRun nodes outputs (Err e) q before r after = Refused e before r after
+ReadRun nodes outputs (Ok sizes) q before r after =
+    CircuitRun (take (sizes.nodes * NODE_WORDS) nodes) (take (sizes.outputs * OUTPUT_WORDS) outputs) q before r after
+
 -- The call on the first records of two areas, so many of each: `Broken` where an area has fewer.
 pub record SizesRun (nodes outputs : List ℕ) (sizes : Sizes) (q : Question) (before : Areas) (r : Both) (after : Areas) : Type 0 where
   pub few_nodes : length nodes < sizes.nodes * NODE_WORDS → Refused Broken before r after
@@ -28,7 +34,7 @@ pub record SizesRun (nodes outputs : List ℕ) (sizes : Sizes) (q : Question) (b
   pub run : Inside nodes outputs sizes
       → CircuitAssured (take (sizes.nodes * NODE_WORDS) nodes) (take (sizes.outputs * OUTPUT_WORDS) outputs) q before r after
 
--- By a reader's answer: its refusal, or the call on the first records of the areas that it wrote.
-abbrev pub ReadRun : List ℕ → List ℕ → Try Sizes → Question → Areas → Both → Areas → Type 0
-ReadRun nodes outputs (Err e) q before r after = Refused e before r after
-ReadRun nodes outputs (Ok sizes) q before r after = SizesRun nodes outputs sizes q before r after
+-- By a reader's answer, whatever it counts: its refusal, or the call on the first records of two areas.
+abbrev pub ReadSizesRun : List ℕ → List ℕ → Try Sizes → Question → Areas → Both → Areas → Type 0
+ReadSizesRun nodes outputs (Err e) q before r after = Refused e before r after
+ReadSizesRun nodes outputs (Ok sizes) q before r after = SizesRun nodes outputs sizes q before r after

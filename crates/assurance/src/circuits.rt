@@ -2,7 +2,7 @@
 ghost use Rattle.std.specs.Prelude.{◌≡◌, ◌≤◌, ◌<◌, length, take, replicate, Err};
 ghost use Rattle.circuit.specs.declared.refusals.Refusal.TheVariants.{UnfitOrder};
 ghost use Rattle.assurance.specs.Composed.{question, Refused, RefusedRun, RanThenEvaluated, CircuitAssured};
-ghost use Rattle.assurance.specs.Inner.{ReadRun};
+ghost use Rattle.assurance.specs.Inner.{ReadSizesRun};
 
 use circuit::areas::clear_all;
 use circuit::records::{NODE_WORDS, OUTPUT_WORDS, Sizes};
@@ -186,7 +186,7 @@ pub fn run_read(
     answers: &mut [u8],
     evaluated: &mut [u8],
 ) -> Both
-    ensures { ReadRun nodes.now outputs.now read (question asked.entry)
+    ensures { ReadSizesRun nodes.now outputs.now read (question asked.entry)
         (record {
           ready = ready.old;
           successors = successors.old;

@@ -27,7 +27,7 @@ use Rattle.reading.specs.Reading.{Places, places_in, find, driver, next_wire, ad
 use Rattle.reading.specs.Holding.{outcome, NodesHold}
 use Rattle.bench_invocations.specs.declared.arguments.Arguments.{Arguments}
 use Rattle.bench_invocations.specs.Walks.{arguments_at, arguments_left, GivesArgument}
-use Rattle.bench_invocations.proofs.Inside.{Inside, arguments_given, arguments_inside}
+use Rattle.bench_invocations.proofs.Inside.{Inside, arguments_given, arguments_inside_at}
 use Rattle.bench_gates.specs.declared.plans.Plan.{Plan}
 use Rattle.bench_gates.specs.declared.chains.Chained.{Chained}
 use Rattle.bench_gates.specs.declared.operations.Binary.{Binary}
@@ -122,7 +122,7 @@ module _ {t : List ℕ} {es : List Entry} {q : Plan} {o : Binary} {words : ℕ} 
   stepping_start i k a e s f n = record {
     coming = drop 2 (arguments_at t q.arguments);
     given = subst (λ (ws : List Word). Gives s (drop 2 ws)) (ap arguments_left f ∙ e) (YieldsList-from_skip 2 (arguments_given (skip_source s)) n);
-    stand = all_drop t 2 (arguments_at t q.arguments) (arguments_inside t q.arguments i);
+    stand = all_drop t 2 (arguments_at t q.arguments) (arguments_inside_at t q.arguments i);
     kept = k;
     same = λ m l. refl;
   }

@@ -2,8 +2,8 @@
 -- Assumes nothing.
 use Prim.Native.Nat.{ℕ, zero, suc, ◌+◌, ◌-◌, ◌≤◌}
 use mathlib.Core.Path.{◌≡◌, refl, ap}
-use mathlib.Core.Bool.{Bool, true, false}
-use mathlib.Core.List.{List}
+use mathlib.Core.Bool.{Bool, true, false, cond}
+use mathlib.Core.List.{List, []}
 use native.Mathlib.Omega.{arith}
 use lib.Dec.{leb}
 use lib.ListN.{length, take, drop}
@@ -19,8 +19,10 @@ use Rattle.text.specs.declared.words.Word.{Word}
 use Rattle.text.proofs.BlankLaws.{trimmed_bytes}
 use Rattle.bench_invocations.specs.declared.arguments.ArgumentPlaces.{ArgumentPlaces}
 use Rattle.bench_invocations.specs.declared.arguments.Arguments.{Arguments}
+use Rattle.bench_invocations.specs.Invocations.{blank, trimmed_parts, arguments_of}
 use Rattle.bench_invocations.specs.Walks.{arguments_from, arguments_at, arguments_left, GivesArgument}
 use Rattle.bench_invocations.proofs.Parts.{arguments_over, argument_first}
+use Rattle.bench_invocations.proofs.Parsing.{arguments_all}
 
 pub arguments_given : (a : Arguments) → YieldsList GivesArgument (λ x. x) a (arguments_left a)
 arguments_given a = YieldsList-from_shown GivesArgument (λ x. x) arguments_left (λ t u h. ap length h.first.0) (λ t x u h. h.first) a
@@ -62,12 +64,30 @@ arguments_up_to (suc n) t at end el h = go (leb at end) refl (λ next k. argumen
 -- ---- the arguments at places of the text
 
 module _ (t : List ℕ) (p : ArgumentPlaces) (h : p.end ≤ length t) where
-  bounded : Bounded t (p.end + 1 - p.at) (arguments_at t p)
-  bounded = arguments_up_to (p.end + 1 - p.at) t p.at p.end h (omega arith)
+  bounded_at : Bounded t (p.end + 1 - p.at) (arguments_at t p)
+  bounded_at = arguments_up_to (p.end + 1 - p.at) t p.at p.end h (omega arith)
 
   -- there are no more arguments than places
-  pub argument_count : length (arguments_at t p) ≤ p.end + 1 - p.at
+  pub argument_count_at : length (arguments_at t p) ≤ p.end + 1 - p.at
+  argument_count_at = bounded_at.number
+
+  pub arguments_inside_at : All (Inside t) (arguments_at t p)
+  arguments_inside_at = bounded_at.each
+
+-- ---- the arguments in a stretch of the text
+
+module _ (t : List ℕ) (w : Word) (h : Inside t w) where
+  bounded : Bounded t (w.len + 1) (arguments_of t w)
+  unfolding arguments_of
+  bounded = go (blank t w)
+    where
+      go : (b : Bool) → Bounded t (w.len + 1) (cond b [] (trimmed_parts t w))
+      go true = record { each = tt; number = omega arith }
+      go false = rw (arguments_all t w) at (arguments_up_to (w.len + 1) t w.start (w.start + w.len) h (omega arith))
+
+  -- there are no more arguments than bytes, and one
+  pub argument_count : length (arguments_of t w) ≤ w.len + 1
   argument_count = bounded.number
 
-  pub arguments_inside : All (Inside t) (arguments_at t p)
+  pub arguments_inside : All (Inside t) (arguments_of t w)
   arguments_inside = bounded.each

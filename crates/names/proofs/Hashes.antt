@@ -1,10 +1,11 @@
--- Laws of the sums of a name's bytes: four bytes further, and at the end; and of the halves of the mix.
+-- Laws of the sums of a name's bytes: four bytes further, and at the end; and of the halves of the mix, alone and in a key.
 -- Assumes nothing.
 use Rattle.std.proofs.Common.{◌≡◌, ℕ, ◌+◌, ◌-◌, ◌*◌, ◌/◌, ◌%◌, ◌^◌, ◌<◌, ◌≤◌, List, [], ◌∷◌, length, get_or, refl, ap, ◌∙◌, arith}
 use Rattle.std.specs.Int.{rotate_left, w32}
 use Rattle.std.proofs.lemmas.Nat.{or_shifted}
 use Rattle.laws.specs.Stretches.{stretch}
-use Rattle.names.specs.Chains.{wrapping_sum, sum_in, four_bytes, word_of, mix_in, mixed}
+use Rattle.names.specs.declared.records.TheConstants.{HALF}
+use Rattle.names.specs.Chains.{wrapping_sum, sum_in, four_bytes, word_of, mix_in, mixed, hash_of, key_of}
 use Rattle.names.specs.Bounds.{Bytes}
 use Rattle.names.proofs.Words.{lowest, four_rest}
 
@@ -75,3 +76,27 @@ pub rotate_left-half : (m : ℕ) → m < 2 ^ 32 → rotate_left w32 m 16 ≡ m /
 rotate_left-half m l =
     let up : m * 2 ^ 16 % 2 ^ 32 ≡ m % 65536 * 2 ^ 16 = omega arith in
     rw up (or_shifted (m % 65536) 16 (m / 65536) (omega arith) ∙ omega arith)
+
+-- ---- the mix in a key
+
+mix_few : (s w : ℕ) → mix_in s w < 2 ^ 32
+unfolding mix_in
+mix_few s w = omega arith
+
+-- the mix of bytes has 32 bits
+pub mixed_few : (s : ℕ) (l : List ℕ) → mixed s l < 2 ^ 32
+unfolding mixed
+mixed_few s [] = mix_few s 0
+mixed_few s (a ∷ []) = mix_few s (word_of (a ∷ []))
+mixed_few s (a ∷ b ∷ []) = mix_few s (word_of (a ∷ b ∷ []))
+mixed_few s (a ∷ b ∷ c ∷ []) = mix_few s (word_of (a ∷ b ∷ c ∷ []))
+mixed_few s (a ∷ b ∷ c ∷ d ∷ l) = mixed_few (mix_in s (word_of (a ∷ b ∷ c ∷ d ∷ []))) l
+
+-- a key of which only the lower half of its hash is kept: the name's length, and the upper half of the mix
+pub key_sixteen : (l : List ℕ) → length l < HALF → key_of l % HALF + key_of l / HALF % 65536 * HALF ≡ length l + mixed 0 l / 65536 * HALF
+unfolding key_of hash_of
+key_sixteen l h = go (length l) (mixed 0 l) h (mixed_few 0 l)
+  where
+    go : (n m : ℕ) → n < HALF → m < 2 ^ 32
+        → (n % HALF + (m / 65536 + m % 65536 * 65536) * HALF) % HALF + (n % HALF + (m / 65536 + m % 65536 * 65536) * HALF) / HALF % 65536 * HALF ≡ n + m / 65536 * HALF
+    go n m a b = omega arith

@@ -1,7 +1,7 @@
 use lib.ListN.{length}
 use Rattle.reading.specs.Areas.{read_text}
 use Rattle.assurance.specs.Composed.{question}
-use Rattle.assurance.proofs.Composing.{text_assured}
+use Rattle.assurance.proofs.Composing.{sizes_assured}
 use Rattle.assurance.proofs.texts.assured_text.Goals as goal
 
 pub returns-clause-assured : goal.returns-clause-assured
@@ -12,4 +12,4 @@ returns-clause-assured g c =
     let o = length c.args.outputs.now in
     let said = read_text g.F.Format.lines c.args.text.now j n m o in
     let left = c.parse-read.ensures in
-    text_assured said n o _ _ _ left.answer left.nodes_is left.outputs_is (question c.args.asked) _ _ _ c.run_read.ensures (g.met.F.Sound.sounds c.args.text.now j n m o)
+    sizes_assured said n o _ _ _ left.answer left.nodes_is left.outputs_is (question c.args.asked) _ _ _ c.run_read.ensures (g.met.F.Sound.sounds c.args.text.now j n m o)

@@ -4,7 +4,7 @@ use native.Mathlib.Omega.{arith}
 use lib.ListN.{length}
 use Rattle.std.specs.Iterator.Adapters.{enumerate_source, enumerate_count}
 use Rattle.std.proofs.lemmas.Result.{err_from_is_err_and}
-use Rattle.bench_invocations.proofs.Inside.{argument_count}
+use Rattle.bench_invocations.proofs.Inside.{argument_count_at}
 use Rattle.bench_gates.proofs.Chaining.{stepping_start, stepping_stands, stepping_stops, stepping_refused, stepping_end}
 use Rattle.bench_gates.proofs.chains.chain_steps.Goals as goal
 
@@ -15,7 +15,7 @@ loop-k-init c =
     let number = ap enumerate_count same ∙ c.enumerate-k-items.ensures.count in
     let source = ap enumerate_source same ∙ c.enumerate-k-items.ensures.source in
     let few = ap length c.arguments_at.ensures.all in
-    rw (source, number) ((tt, tt, inl (rw c.skip.ensures.source (omega (arith, few, argument_count t.text.now c.args.plan.arguments c.requires.arguments_in_text)))), tt, stepping_start c.requires.arguments_in_text c.requires.area _ c.arguments_at.ensures.all _ c.skip.ensures.source c.skip.ensures.count)
+    rw (source, number) ((tt, tt, inl (rw c.skip.ensures.source (omega (arith, few, argument_count_at t.text.now c.args.plan.arguments c.requires.arguments_in_text)))), tt, stepping_start c.requires.arguments_in_text c.requires.area _ c.arguments_at.ensures.all _ c.skip.ensures.source c.skip.ensures.count)
 
 pub argument_wire-requires : goal.argument_wire-requires
 argument_wire-requires c =

@@ -4,7 +4,7 @@ use native.Mathlib.Omega.{arith}
 use lib.ListN.{length}
 use Rattle.std.proofs.lemmas.Result.{err_from_is_err_and}
 use Rattle.std.specs.Iterator.Adapters.{enumerate_source, enumerate_count}
-use Rattle.bench_invocations.proofs.Inside.{argument_count}
+use Rattle.bench_invocations.proofs.Inside.{argument_count_at}
 use Rattle.bench_gates.proofs.Drivers.{walking_start, walking_stop, walking_end}
 use Rattle.bench_gates.proofs.inputs.input_wires.Goals as goal
 
@@ -16,7 +16,7 @@ loop-n-init c =
     let source = ap enumerate_source same ∙ c.enumerate-n-items.ensures.source in
     let few = ap length c.arguments_at.ensures.all in
     rw (source, number)
-    ((tt, tt, inl (omega (arith, few, argument_count t.text.now c.args.arguments c.requires))), tt, c.arguments_at.ensures.same_text, rw c.arguments_at.ensures.all walking_start)
+    ((tt, tt, inl (omega (arith, few, argument_count_at t.text.now c.args.arguments c.requires))), tt, c.arguments_at.ensures.same_text, rw c.arguments_at.ensures.all walking_start)
 
 pub returns-in_err-wire : goal.returns-in_err-wire
 returns-in_err-wire c =
